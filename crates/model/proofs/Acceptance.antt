@@ -1,0 +1,81 @@
+-- Document 01's examples, by computation. Assumes nothing.
+use mathlib.Core.Path.{refl}
+use Rattle.model.specs.Tests.{allBelow, anyBelow, allIn, anyIn, sum, count, lowest, eqList, tab}
+use Rattle.model.specs.Masks.{bit, maskOf}
+use Rattle.model.specs.Stores.{has, storeOf, emptyStore, allFilled, values}
+use Rattle.model.specs.Closure.{strike, rounds, allRounds, closureOf}
+use Rattle.model.specs.Choices.{firstOf, first, anyChoice}
+use Rattle.model.specs.Books.{allows, carries, supportedIn, supported, closure}
+use Rattle.model.specs.Solutions.{formsRows, firstSolution}
+use Rattle.model.specs.Search.{openColumn, valueOf, searchFrom, searchSolution}
+use Rattle.model.specs.Orders.{nonzero, depth, before, firstCause, outside, refusal, applied, push, trailFrom, permits, allowed, domains}
+use Rattle.model.specs.Answers.{assigned, statusOf, subsumed, subsumedBits, doneOf, showing, finishing, answer, answersFrom, lastFrom, acceptedFrom, answerBytes}
+use Rattle.model.specs.Acceptance.{TenFacts, SevenLines, SearchFacts, RefusalFacts, MayDiffer}
+
+-- opens every definition that an example computes with
+computing : Unit {0}
+unfolding lowest allBelow anyBelow allIn anyIn sum count eqList tab bit maskOf has storeOf emptyStore allFilled values strike rounds allRounds closureOf firstOf first anyChoice allows carries supportedIn supported closure formsRows firstSolution nonzero depth before firstCause outside refusal applied push trailFrom permits allowed domains assigned statusOf subsumed subsumedBits doneOf showing finishing answer answersFrom lastFrom acceptedFrom answerBytes openColumn valueOf searchFrom searchSolution
+computing = tt
+
+pub tenFacts : TenFacts
+unfolding computing
+tenFacts =
+    record {
+      k1 = refl;
+      k2 = refl;
+      k3 = refl;
+      k4 = refl;
+      k5 = refl;
+      k6 = refl;
+      k7 = (refl, refl);
+      k8 = refl;
+      k9 = refl;
+      k10 = refl;
+    }
+
+pub sevenLines : SevenLines
+unfolding computing
+sevenLines = record { lines = refl; accepted = refl }
+
+pub searchFacts : SearchFacts
+unfolding computing
+searchFacts = record { k6 = refl; k7 = refl; lowest-column = refl }
+
+pub refusalFacts : RefusalFacts
+unfolding computing
+refusalFacts =
+    record {
+      narrow-byte-2 = refl;
+      narrow-byte-3 = refl;
+      narrow-column = refl;
+      narrow-mask = refl;
+      narrow-mask-high = refl;
+      narrow-all = refl;
+      narrow-none = refl;
+      dead-finish = refl;
+      dead-back = refl;
+      mark-argument = refl;
+      mark-last-byte = refl;
+      mark-16 = refl;
+      mark-17 = refl;
+      back-byte-2 = refl;
+      back-last-byte = refl;
+      back-0 = refl;
+      back-above = refl;
+      back-depth = refl;
+      finish-argument = refl;
+      finish-last-byte = refl;
+      finish-refused = refl;
+      kind-0 = refl;
+      kind-5 = refl;
+    }
+
+pub mayDiffer : MayDiffer
+unfolding computing
+mayDiffer =
+    record {
+      same-marked = record { at = λ c v. refl };
+      depths = (refl, refl);
+      same-unknown = record { at = λ c v. refl };
+      refusals = (refl, refl);
+    }

@@ -1,0 +1,120 @@
+-- Laws of valid rows: a value is supported in a sheet exactly when a valid row has it. What an engine strikes by its rows is not
+-- supported, and where every value has a valid row the store is consistent. Assumes nothing.
+use mathlib.Core.Path.{_≡_, refl, sym, ap, _∙_}
+use mathlib.Core.Bool.{true, false, false≢true}
+use mathlib.Core.Logic.{_⊎_, inl, inr, _↔_}
+use mathlib.Core.List.{List, [], _∷_, List·Memᴰ, List·Memᴰ·head, List·Memᴰ·tail}
+use Prim.Native.Nat.{ℕ, zero, suc, _+_, _*_, _^_, _<_}
+use native.Mathlib.Nat.{not-suc-le-zero, le-of-suc-le-suc, zero-lt-suc}
+use native.Mathlib.Omega.{arith}
+use lib.Dec.{ltb}
+use lib.ListN.{length, getD}
+use borrow.Author.Tests.{ltb-true, lt-ltb}
+use Rattle.model.specs.Masks.{bit}
+use Rattle.model.specs.Stores.{has, IsStore}
+use Rattle.model.specs.Closure.{Consistent}
+use Rattle.model.specs.Choices.{pick, Takes}
+use Rattle.model.specs.Books.{Sheet, Book, columnCount, WellFormed, Support, supportedIn, supported}
+use Rattle.model.specs.States.{valid, validRow, validWord}
+use Rattle.model.proofs.Tests.{and-l, and-r, and-i, either, allIn-e}
+use Rattle.model.proofs.Masks.{bit-maskOf, maskOf-lt, mask-ext}
+use Rattle.model.proofs.Books.{support-e, consistent-from, allows-e, allows-i}
+
+pub valid-e : (D cs r : List ℕ) → valid D cs r ≡ true → Takes (pick D cs) r
+unfolding valid has
+valid-e D [] [] e = record { size = refl; each = λ i l. absurd (not-suc-le-zero l) }
+valid-e D [] (v ∷ r) e = absurd (false≢true e)
+valid-e D (c ∷ cs) [] e = absurd (false≢true e)
+valid-e D (c ∷ cs) (v ∷ r) e = go (valid-e D cs r (and-r (has D c v) _ e))
+  where
+    go : Takes (pick D cs) r → Takes (pick D (c ∷ cs)) (v ∷ r)
+    go h = record { size = ap suc (h .size); each = at }
+      where
+        at : (i : ℕ) → i < suc (length (pick D cs)) → has (pick D (c ∷ cs)) i (getD (v ∷ r) i 0) ≡ true
+        at zero l = and-l (has D c v) _ e
+        at (suc i) l = h .each i (le-of-suc-le-suc l)
+
+pub valid-i : (D cs r : List ℕ) → Takes (pick D cs) r → valid D cs r ≡ true
+unfolding valid has
+valid-i D [] [] h = refl
+valid-i D [] (v ∷ r) h = absurd (omega (arith, h .size))
+valid-i D (c ∷ cs) [] h = absurd (omega (arith, h .size))
+valid-i D (c ∷ cs) (v ∷ r) h =
+    and-i (h .each 0 (zero-lt-suc (length (pick D cs))))
+    (valid-i D cs r (record { size = omega (arith, h .size); each = λ i l. h .each (suc i) (omega arith) }))
+
+-- an element of a list has a place, and what stands at a place is an element
+at-place : (x : List ℕ) (l : List (List ℕ)) → List·Memᴰ x l → (i : ℕ) × (i < length l) × (getD l i [] ≡ x)
+at-place x (y ∷ l) (List·Memᴰ·head e) = (0, zero-lt-suc (length l), sym e)
+at-place x (y ∷ l) (List·Memᴰ·tail m) = let r = at-place x l m in (suc (r .0), omega arith, r .2)
+
+in-list : (l : List (List ℕ)) (i : ℕ) → i < length l → List·Memᴰ (getD l i []) l
+in-list [] i h = absurd (not-suc-le-zero h)
+in-list (y ∷ l) zero h = List·Memᴰ·head refl
+in-list (y ∷ l) (suc i) h = List·Memᴰ·tail (in-list l i (le-of-suc-le-suc h))
+
+-- a valid row of the sheet with the value v at place i
+pub record ValidSupport (D : List ℕ) (s : Sheet) (i v : ℕ) : Type 0 where
+  pub row : ℕ
+  pub is-valid : validRow D s row ≡ true
+  pub value : getD (getD (s .rows) row []) i 0 ≡ v
+
+pub support-iff : (D : List ℕ) (s : Sheet) (i v : ℕ) → Support D s i v ↔ ValidSupport D s i v
+unfolding validRow
+support-iff D s i v = (to, from)
+  where
+    to : Support D s i v → ValidSupport D s i v
+    to k =
+        let r = at-place (k .row) (s .rows) (allows-e s (k .row) (k .allowed)) in
+        record {
+          row = r .0;
+          is-valid = and-i (lt-ltb (r .0) (length (s .rows)) (r .1)) (rw (r .2) (valid-i D (s .columns) (k .row) (k .valid)));
+          value = ap (λ (t : List ℕ). getD t i 0) (r .2) ∙ k .value;
+        }
+
+    from : ValidSupport D s i v → Support D s i v
+    from k =
+        let l = ltb-true (k .row) (length (s .rows)) (and-l (ltb (k .row) (length (s .rows))) _ (k .is-valid)) in
+        record {
+          row = getD (s .rows) (k .row) [];
+          allowed = allows-i s _ (in-list (s .rows) (k .row) l);
+          valid = valid-e D (s .columns) _ (and-r (ltb (k .row) (length (s .rows))) _ (k .is-valid));
+          value = k .value;
+        }
+
+module _ (b : Book) (p : WellFormed b) (D : List ℕ) where
+  -- a value without a valid row in some sheet may be struck
+  pub unsupported : (s : Sheet) → List·Memᴰ s (b .sheets) → (i : ℕ) → i < length (s .columns) → (v : ℕ)
+      → (ValidSupport D s i v → ⊥) → supported b D (getD (s .columns) i 0) v ≡ false
+  unfolding supported
+  unsupported s m i l v n = go (either (supported b D (getD (s .columns) i 0) v))
+    where
+      go : (supported b D (getD (s .columns) i 0) v ≡ true) ⊎ (supported b D (getD (s .columns) i 0) v ≡ false)
+          → supported b D (getD (s .columns) i 0) v ≡ false
+      go (inl e) =
+          absurd
+          (n
+          (support-iff D s i v .0
+          (support-e D (b .counts) s (p .sheet s m) i l v (allIn-e (b .sheets) (supportedIn D (getD (s .columns) i 0) v) e s m))))
+      go (inr e) = e
+
+  -- no column empty, and a valid row for every value in every sheet: consistent
+  pub rows-consistent : IsStore (columnCount b) D
+      → ((c : ℕ) → c < columnCount b → (v : ℕ) × (has D c v ≡ true))
+      → ((s : Sheet) → List·Memᴰ s (b .sheets) → (i : ℕ) → i < length (s .columns)
+      → (v : ℕ) → has D (getD (s .columns) i 0) v ≡ true → ValidSupport D s i v)
+      → Consistent (columnCount b) (supported b) D
+  rows-consistent d f h =
+      consistent-from b D d (record { filled = f; support = λ s m i l v e. support-iff D s i v .1 (h s m i l v e) })
+
+-- ---- the words
+-- bit r mod 64 of word r div 64 says whether row r is valid
+pub word-row : (D : List ℕ) (s : Sheet) (w k : ℕ) → k < 64 → bit k (validWord D s w) ≡ validRow D s (w * 64 + k)
+unfolding validWord
+word-row D s w k h = bit-maskOf 64 (λ k. validRow D s (w * 64 + k)) k h
+
+-- a word with the same rows is the sheet's word
+pub word-same : (D : List ℕ) (s : Sheet) (w x : ℕ) → x < 2 ^ 64 → ((k : ℕ) → k < 64 → bit k x ≡ validRow D s (w * 64 + k)) → x ≡ validWord D s w
+unfolding validWord
+word-same D s w x l h =
+    mask-ext 64 x (validWord D s w) l (maskOf-lt 64 (λ k. validRow D s (w * 64 + k))) (λ k m. h k m ∙ sym (word-row D s w k m))

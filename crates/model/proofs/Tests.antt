@@ -1,0 +1,265 @@
+-- Laws of the tests over numbers and lists, of counts, and of `&&` and `||`. Assumes nothing.
+use mathlib.Core.Path.{_≡_, refl, sym, ap, _∙_}
+use mathlib.Core.Bool.{Bool, true, false, _&&_, _||_, false≢true}
+use mathlib.Core.Logic.{_⊎_, inl, inr}
+use mathlib.Core.List.{List, [], _∷_, List·Memᴰ, List·Memᴰ·head, List·Memᴰ·tail}
+use Prim.Native.Nat.{ℕ, zero, suc, _≤_, _<_}
+use native.Mathlib.Nat.{not-suc-le-zero, le-of-suc-le-suc, le-refl, zero-lt-suc}
+use native.Mathlib.Omega.{arith}
+use lib.Dec.{eqb, ltb}
+use lib.ListN.{length, getD, List·getD-eq-default}
+use lib.Seq.{ext-getD}
+use borrow.Author.Tests.{eqb-true, eq-eqb, ltb-true, ltb-false}
+use Rattle.model.specs.Tests.{allBelow, anyBelow, allIn, anyIn, oneIf, sum, count, lowest, eqList, tab}
+
+-- ---- `&&`, `||`
+pub and-l : (a b : Bool) → (a && b) ≡ true → a ≡ true
+and-l true b e = refl
+and-l false b e = absurd (false≢true e)
+
+pub and-r : (a b : Bool) → (a && b) ≡ true → b ≡ true
+and-r true b e = e
+and-r false b e = absurd (false≢true e)
+
+pub and-i : {a b : Bool} → a ≡ true → b ≡ true → (a && b) ≡ true
+and-i p q = cc
+
+pub or-e : (a b : Bool) → (a || b) ≡ true → (a ≡ true) ⊎ (b ≡ true)
+or-e true b e = inl refl
+or-e false b e = inr e
+
+pub or-l : (a b : Bool) → a ≡ true → (a || b) ≡ true
+or-l a b p = cc
+
+pub or-r : (a b : Bool) → b ≡ true → (a || b) ≡ true
+or-r true b p = refl
+or-r false b p = p
+
+-- a test is true, or it is false
+pub either : (b : Bool) → (b ≡ true) ⊎ (b ≡ false)
+either true = inl refl
+either false = inr refl
+
+-- two tests that hold together are equal
+pub same-test : (a b : Bool) → (a ≡ true → b ≡ true) → (b ≡ true → a ≡ true) → a ≡ b
+same-test true b f g = sym (f refl)
+same-test false true f g = g refl
+same-test false false f g = refl
+
+-- ---- every number, some number below a bound
+pub allBelow-e : (n : ℕ) (f : ℕ → Bool) → allBelow n f ≡ true → (i : ℕ) → i < n → f i ≡ true
+unfolding allBelow
+allBelow-e zero f e i h = absurd (not-suc-le-zero h)
+allBelow-e (suc n) f e zero h = and-l (f 0) _ e
+allBelow-e (suc n) f e (suc i) h = allBelow-e n (λ j. f (suc j)) (and-r (f 0) _ e) i (le-of-suc-le-suc h)
+
+pub allBelow-i : (n : ℕ) (f : ℕ → Bool) → ((i : ℕ) → i < n → f i ≡ true) → allBelow n f ≡ true
+unfolding allBelow
+allBelow-i zero f h = refl
+allBelow-i (suc n) f h = and-i (h 0 (zero-lt-suc n)) (allBelow-i n (λ j. f (suc j)) (λ i l. h (suc i) (omega arith)))
+
+pub anyBelow-e : (n : ℕ) (f : ℕ → Bool) → anyBelow n f ≡ true → (i : ℕ) × (i < n) × (f i ≡ true)
+unfolding anyBelow
+anyBelow-e zero f e = absurd (false≢true e)
+anyBelow-e (suc n) f e = go (or-e (f 0) _ e) (λ d. anyBelow-e n (λ j. f (suc j)) d)
+  where
+    go : (f 0 ≡ true) ⊎ (anyBelow n (λ j. f (suc j)) ≡ true)
+        → (anyBelow n (λ j. f (suc j)) ≡ true → (i : ℕ) × (i < n) × (f (suc i) ≡ true))
+        → (i : ℕ) × (i < suc n) × (f i ≡ true)
+    go (inl p) k = (0, zero-lt-suc n, p)
+    go (inr q) k = let r = k q in (suc (r .0), omega arith, r .2)
+
+pub anyBelow-i : (n : ℕ) (f : ℕ → Bool) (i : ℕ) → i < n → f i ≡ true → anyBelow n f ≡ true
+unfolding anyBelow
+anyBelow-i zero f i h e = absurd (not-suc-le-zero h)
+anyBelow-i (suc n) f zero h e = or-l (f 0) _ e
+anyBelow-i (suc n) f (suc i) h e = or-r (f 0) _ (anyBelow-i n (λ j. f (suc j)) i (le-of-suc-le-suc h) e)
+
+pub anyBelow-none : (n : ℕ) (f : ℕ → Bool) → ((i : ℕ) → i < n → f i ≡ false) → anyBelow n f ≡ false
+unfolding anyBelow
+anyBelow-none zero f h = refl
+anyBelow-none (suc n) f h =
+    ap (λ (t : Bool). t || anyBelow n (λ i. f (suc i))) (h 0 (zero-lt-suc n)) ∙ anyBelow-none n (λ i. f (suc i)) (λ i l. h (suc i) (omega arith))
+
+-- ---- every element, some element of a list
+module _ {A : Type 0} where
+  pub allIn-mono : (l : List A) (f g : A → Bool) → ((x : A) → f x ≡ true → g x ≡ true) → allIn l f ≡ true → allIn l g ≡ true
+  unfolding allIn
+  allIn-mono [] f g h e = refl
+  allIn-mono (x ∷ xs) f g h e = and-i (h x (and-l (f x) _ e)) (allIn-mono xs f g h (and-r (f x) _ e))
+
+  pub anyIn-mono : (l : List A) (f g : A → Bool) → ((x : A) → f x ≡ true → g x ≡ true) → anyIn l f ≡ true → anyIn l g ≡ true
+  unfolding anyIn
+  anyIn-mono [] f g h e = e
+  anyIn-mono (x ∷ xs) f g h e = go (or-e (f x) _ e) (anyIn-mono xs f g h)
+    where
+      go : (f x ≡ true) ⊎ (anyIn xs f ≡ true) → (anyIn xs f ≡ true → anyIn xs g ≡ true) → (g x || anyIn xs g) ≡ true
+      go (inl p) k = or-l (g x) _ (h x p)
+      go (inr q) k = or-r (g x) _ (k q)
+
+  pub allIn-e : (l : List A) (f : A → Bool) → allIn l f ≡ true → (x : A) → List·Memᴰ x l → f x ≡ true
+  unfolding allIn
+  allIn-e (x ∷ xs) f e y (List·Memᴰ·head p) = ap f p ∙ and-l (f x) _ e
+  allIn-e (x ∷ xs) f e y (List·Memᴰ·tail m) = allIn-e xs f (and-r (f x) _ e) y m
+
+  pub allIn-i : (l : List A) (f : A → Bool) → ((x : A) → List·Memᴰ x l → f x ≡ true) → allIn l f ≡ true
+  unfolding allIn
+  allIn-i [] f h = refl
+  allIn-i (x ∷ xs) f h = and-i (h x (List·Memᴰ·head refl)) (allIn-i xs f (λ y m. h y (List·Memᴰ·tail m)))
+
+  pub anyIn-e : (l : List A) (f : A → Bool) → anyIn l f ≡ true → (x : A) × List·Memᴰ x l × (f x ≡ true)
+  unfolding anyIn
+  anyIn-e [] f e = absurd (false≢true e)
+  anyIn-e (x ∷ xs) f e = go (or-e (f x) _ e) (anyIn-e xs f)
+    where
+      go : (f x ≡ true) ⊎ (anyIn xs f ≡ true) → (anyIn xs f ≡ true → (y : A) × List·Memᴰ y xs × (f y ≡ true))
+          → (y : A) × List·Memᴰ y (x ∷ xs) × (f y ≡ true)
+      go (inl p) k = (x, List·Memᴰ·head refl, p)
+      go (inr q) k = let r = k q in (r .0, List·Memᴰ·tail (r .1), r .2)
+
+  pub anyIn-i : (l : List A) (f : A → Bool) (x : A) → List·Memᴰ x l → f x ≡ true → anyIn l f ≡ true
+  unfolding anyIn
+  anyIn-i (x ∷ xs) f y (List·Memᴰ·head p) e = or-l (f x) _ (ap f (sym p) ∙ e)
+  anyIn-i (x ∷ xs) f y (List·Memᴰ·tail m) e = or-r (f x) _ (anyIn-i xs f y m e)
+
+-- ---- the sum of a function over the numbers below a bound; how many of them pass a test
+pub sum-le : (n : ℕ) (f g : ℕ → ℕ) → ((i : ℕ) → i < n → f i ≤ g i) → sum n f ≤ sum n g
+unfolding sum
+sum-le zero f g h = omega arith
+sum-le (suc n) f g h =
+    omega (arith, h 0 (zero-lt-suc n), sum-le n (λ j. f (suc j)) (λ j. g (suc j)) (λ i l. h (suc i) (omega arith)))
+
+-- a sum that did not fall has every term as it was
+pub sum-eq : (n : ℕ) (f g : ℕ → ℕ) → ((i : ℕ) → i < n → f i ≤ g i) → sum n f ≡ sum n g → (i : ℕ) → i < n → f i ≡ g i
+unfolding sum
+sum-eq zero f g h e i l = absurd (not-suc-le-zero l)
+sum-eq (suc n) f g h e zero l =
+    omega (arith, h 0 l, sum-le n (λ j. f (suc j)) (λ j. g (suc j)) (λ k m. h (suc k) (omega arith)))
+sum-eq (suc n) f g h e (suc i) l =
+    sum-eq n (λ j. f (suc j)) (λ j. g (suc j)) (λ k m. h (suc k) (omega arith))
+    (omega (arith, h 0 (zero-lt-suc n), sum-le n (λ j. f (suc j)) (λ j. g (suc j)) (λ k m. h (suc k) (omega arith)))) i (le-of-suc-le-suc l)
+
+pub oneIf-le : (a b : Bool) → (a ≡ true → b ≡ true) → oneIf a ≤ oneIf b
+oneIf-le true b h = rw (h refl) (le-refl 1)
+oneIf-le false b h = omega arith
+
+pub oneIf-eq : (a b : Bool) → oneIf a ≡ oneIf b → a ≡ b
+oneIf-eq true true e = refl
+oneIf-eq false false e = refl
+oneIf-eq true false e = absurd (omega arith)
+oneIf-eq false true e = absurd (omega arith)
+
+-- ---- equal lists of numbers
+pub eqList-e : (l m : List ℕ) → eqList l m ≡ true → l ≡ m
+unfolding eqList
+eqList-e [] [] e = refl
+eqList-e [] (y ∷ ys) e = absurd (false≢true e)
+eqList-e (x ∷ xs) [] e = absurd (false≢true e)
+eqList-e (x ∷ xs) (y ∷ ys) e =
+    let p : x ≡ y = eqb-true x y (and-l (eqb x y) _ e) in
+    let q : xs ≡ ys = eqList-e xs ys (and-r (eqb x y) _ e) in
+    cc
+
+pub eqList-refl : (l : List ℕ) → eqList l l ≡ true
+unfolding eqList
+eqList-refl [] = refl
+eqList-refl (x ∷ xs) = and-i (eq-eqb x x refl) (eqList-refl xs)
+
+-- ---- the lowest number below a bound that passes a test, or the bound
+pub lowest-e : (n : ℕ) (f : ℕ → Bool) → lowest n f < n → f (lowest n f) ≡ true
+unfolding lowest
+lowest-e zero f h = absurd (not-suc-le-zero h)
+lowest-e (suc n) f h = go (either (f 0)) (lowest-e n (λ i. f (suc i)))
+  where
+    go : (f 0 ≡ true) ⊎ (f 0 ≡ false) → (lowest n (λ i. f (suc i)) < n → f (suc (lowest n (λ i. f (suc i)))) ≡ true) → f (lowest (suc n) f) ≡ true
+    go (inl p) r = let k : lowest (suc n) f ≡ 0 = rw p in rw k p
+    go (inr q) r = let k : lowest (suc n) f ≡ suc (lowest n (λ i. f (suc i))) = rw q in rw k (r (omega arith))
+
+pub lowest-before : (n : ℕ) (f : ℕ → Bool) (i : ℕ) → i < lowest n f → f i ≡ false
+unfolding lowest
+lowest-before zero f i h = absurd (not-suc-le-zero h)
+lowest-before (suc n) f i h = go i h (either (f 0)) (lowest-before n (λ i. f (suc i)))
+  where
+    go : (i : ℕ) → i < lowest (suc n) f → (f 0 ≡ true) ⊎ (f 0 ≡ false)
+        → ((j : ℕ) → j < lowest n (λ i. f (suc i)) → f (suc j) ≡ false) → f i ≡ false
+    go i l (inl p) r = let k : lowest (suc n) f ≡ 0 = rw p in absurd (omega arith)
+    go zero l (inr q) r = q
+    go (suc i) l (inr q) r = let k : lowest (suc n) f ≡ suc (lowest n (λ i. f (suc i))) = rw q in r i (omega arith)
+
+-- ---- exactly one
+sum-zero : (n : ℕ) (f : ℕ → ℕ) → sum n f ≡ 0 → (i : ℕ) → i < n → f i ≡ 0
+unfolding sum
+sum-zero zero f e i l = absurd (not-suc-le-zero l)
+sum-zero (suc n) f e zero l = omega arith
+sum-zero (suc n) f e (suc i) l = sum-zero n (λ j. f (suc j)) (omega arith) i (le-of-suc-le-suc l)
+
+zero-sum : (n : ℕ) (f : ℕ → ℕ) → ((i : ℕ) → i < n → f i ≡ 0) → sum n f ≡ 0
+unfolding sum
+zero-sum zero f h = refl
+zero-sum (suc n) f h = omega (arith, h 0 (zero-lt-suc n), zero-sum n (λ j. f (suc j)) (λ i l. h (suc i) (omega arith)))
+
+oneIf-true : (a : Bool) → a ≡ true → oneIf a ≡ 1
+oneIf-true a e = ap oneIf e
+
+oneIf-false : (a : Bool) → (a ≡ true → ⊥) → oneIf a ≡ 0
+oneIf-false true h = absurd (h refl)
+oneIf-false false h = refl
+
+-- where one passes, any two that pass are the same
+pub one-same : (n : ℕ) (f : ℕ → Bool) → count n f ≡ 1 → (i j : ℕ) → i < n → j < n → f i ≡ true → f j ≡ true → i ≡ j
+unfolding count sum
+one-same zero f e i j li lj p q = absurd (not-suc-le-zero li)
+one-same (suc n) f e zero zero li lj p q = refl
+one-same (suc n) f e zero (suc j) li lj p q =
+    absurd (omega (arith, oneIf-true _ p, oneIf-true _ q, sum-zero n (λ k. oneIf (f (suc k))) (omega (arith, oneIf-true _ p)) j (le-of-suc-le-suc lj)))
+one-same (suc n) f e (suc i) zero li lj p q =
+    absurd (omega (arith, oneIf-true _ p, oneIf-true _ q, sum-zero n (λ k. oneIf (f (suc k))) (omega (arith, oneIf-true _ q)) i (le-of-suc-le-suc li)))
+one-same (suc n) f e (suc i) (suc j) li lj p q = go (either (f 0)) (one-same n (λ k. f (suc k)))
+  where
+    go : (f 0 ≡ true) ⊎ (f 0 ≡ false)
+        → (count n (λ k. f (suc k)) ≡ 1 → (i j : ℕ) → i < n → j < n → f (suc i) ≡ true → f (suc j) ≡ true → i ≡ j) → suc i ≡ suc j
+    go (inl a) r = absurd (omega (arith, oneIf-true _ a, oneIf-true _ p, sum-zero n (λ k. oneIf (f (suc k))) (omega (arith, oneIf-true _ a)) i (le-of-suc-le-suc li)))
+    go (inr a) r = ap suc (r (omega (arith, ap oneIf a)) i j (le-of-suc-le-suc li) (le-of-suc-le-suc lj) p q)
+
+-- one passes, where one does and no other
+pub one-count : (n : ℕ) (f : ℕ → Bool) (i : ℕ) → i < n → f i ≡ true → ((j : ℕ) → f j ≡ true → j ≡ i) → count n f ≡ 1
+unfolding count sum
+one-count zero f i l p h = absurd (not-suc-le-zero l)
+one-count (suc n) f zero l p h =
+    omega
+    (arith, oneIf-true _ p, zero-sum n (λ k. oneIf (f (suc k))) (λ j m. oneIf-false (f (suc j)) (λ e. let z : suc j ≡ 0 = h (suc j) e in omega arith)))
+one-count (suc n) f (suc i) l p h =
+    omega (
+      arith,
+      oneIf-false (f 0) (λ e. let z : 0 ≡ suc i = h 0 e in omega arith),
+      one-count n (λ k. f (suc k)) i (le-of-suc-le-suc l) p (λ j e. let z : suc j ≡ suc i = h (suc j) e in omega arith),
+    )
+
+-- ---- a table
+pub length-tab : (n : ℕ) (f : ℕ → ℕ) → length (tab n f) ≡ n
+unfolding tab
+length-tab zero f = refl
+length-tab (suc n) f = ap suc (length-tab n (λ i. f (suc i)))
+
+pub getD-tab : (n : ℕ) (f : ℕ → ℕ) (i : ℕ) → i < n → getD (tab n f) i 0 ≡ f i
+unfolding tab
+getD-tab zero f i h = absurd (not-suc-le-zero h)
+getD-tab (suc n) f zero h = refl
+getD-tab (suc n) f (suc i) h = getD-tab n (λ j. f (suc j)) i (le-of-suc-le-suc h)
+
+pub getD-tab-out : (n : ℕ) (f : ℕ → ℕ) (i : ℕ) → n ≤ i → getD (tab n f) i 0 ≡ 0
+getD-tab-out n f i h = List·getD-eq-default (tab n f) 0 (omega (arith, length-tab n f))
+
+pub tab-same : (n : ℕ) (f g : ℕ → ℕ) → ((i : ℕ) → i < n → f i ≡ g i) → tab n f ≡ tab n g
+tab-same n f g h =
+    ext-getD 0 (tab n f) (tab n g) (length-tab n f ∙ sym (length-tab n g))
+    (λ i l. let k : i < n = omega (arith, length-tab n f) in getD-tab n f i k ∙ h i k ∙ sym (getD-tab n g i k))
+
+-- ---- order
+-- a number is below another, or not
+pub below : (a b : ℕ) → (a < b) ⊎ (b ≤ a)
+below a b = go (either (ltb a b))
+  where
+    go : (ltb a b ≡ true) ⊎ (ltb a b ≡ false) → (a < b) ⊎ (b ≤ a)
+    go (inl p) = inl (ltb-true a b p)
+    go (inr q) = inr (ltb-false a b q)

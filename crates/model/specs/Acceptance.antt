@@ -1,0 +1,161 @@
+-- The examples of document 01 that the customer accepts by: harbour book H, the ten facts K1 to K10, the run of seven lines; and beside
+-- them what the search finds, the refusals of orders, and what demand 3 leaves free. Their proofs are `tenFacts`, `sevenLines`,
+-- `searchFacts`, `refusalFacts` and `mayDiffer` of proofs/Acceptance.antt.
+use mathlib.Core.Path.{_≡_}
+use mathlib.Core.Option.{none, some}
+use mathlib.Core.List.{List, [], _∷_}
+use Prim.Native.Nat.{ℕ, zero, suc}
+use Rattle.model.specs.Books.{Sheet, Book}
+use Rattle.model.specs.Search.{searchSolution}
+use Rattle.model.specs.Orders.{byte, Entry, checkpoint, refusal, trail, domains}
+use Rattle.model.specs.Answers.{Answer, answers, lastAnswer, acceptedCount, answerBytes}
+use Rattle.model.specs.Demands.{SameAllowed}
+
+abbrev pub sheetOf : List ℕ → List (List ℕ) → Sheet
+sheetOf cs rs = record { columns = cs; rows = rs }
+
+-- "three columns: 0 width with V 3, 1 motor with V 2, 2 board with V 2. Sheet 0 (width, motor): 00 10 11 21. Sheet 1 (motor, board): 00 01 11."
+abbrev pub H : Book
+H = record {
+  counts = 3 ∷ 2 ∷ 2 ∷ [];
+  sheets =
+      sheetOf (0 ∷ 1 ∷ []) ((0 ∷ 0 ∷ []) ∷ (1 ∷ 0 ∷ []) ∷ (1 ∷ 1 ∷ []) ∷ (2 ∷ 1 ∷ []) ∷ [])
+      ∷ sheetOf (1 ∷ 2 ∷ []) ((0 ∷ 0 ∷ []) ∷ (0 ∷ 1 ∷ []) ∷ (1 ∷ 1 ∷ []) ∷ [])
+      ∷ [];
+}
+
+-- K7: "three columns of 2 values and a sheet 01 10 on each pair"
+abbrev pub unequal : List (List ℕ)
+unequal = (0 ∷ 1 ∷ []) ∷ (1 ∷ 0 ∷ []) ∷ []
+
+abbrev pub H7 : Book
+H7 = record {
+  counts = 2 ∷ 2 ∷ 2 ∷ [];
+  sheets = sheetOf (0 ∷ 1 ∷ []) unequal ∷ sheetOf (0 ∷ 2 ∷ []) unequal ∷ sheetOf (1 ∷ 2 ∷ []) unequal ∷ [];
+}
+
+-- K8: "a sheet without rows"; K9: "no sheets"
+abbrev pub H8 : Book
+H8 = record { counts = 3 ∷ 2 ∷ 2 ∷ []; sheets = sheetOf (0 ∷ 1 ∷ []) [] ∷ [] }
+
+abbrev pub H9 : Book
+H9 = record { counts = 3 ∷ 2 ∷ 2 ∷ []; sheets = [] }
+
+abbrev pub narrow : ℕ → ℕ → List ℕ
+narrow c m = 1 ∷ c ∷ 0 ∷ 0 ∷ m ∷ 0 ∷ 0 ∷ 0 ∷ []
+
+abbrev pub mark : List ℕ
+mark = 2 ∷ 0 ∷ 0 ∷ 0 ∷ 0 ∷ 0 ∷ 0 ∷ 0 ∷ []
+
+abbrev pub back : ℕ → List ℕ
+back m = 3 ∷ m ∷ 0 ∷ 0 ∷ 0 ∷ 0 ∷ 0 ∷ 0 ∷ []
+
+abbrev pub finish : List ℕ
+finish = 4 ∷ 0 ∷ 0 ∷ 0 ∷ 0 ∷ 0 ∷ 0 ∷ 0 ∷ []
+
+-- an answer in the order of a printed line: "refusal, status, depth, done, byte 3, the C domains"
+abbrev pub line : ℕ → ℕ → ℕ → ℕ → ℕ → List ℕ → Answer
+line r s k n f B = record { refused = r; status = s; marks = k; outcome = f; done = n; shown = B }
+
+pub record TenFacts : Type 0 where
+  -- "K1 opening: domains 7 3 3, done 0."
+  pub k1 : lastAnswer H [] ≡ line 0 1 0 0 0 (7 ∷ 3 ∷ 3 ∷ [])
+  -- "K2 narrow width 4: 4 2 2, decided, done 3."
+  pub k2 : lastAnswer H (narrow 0 4 ∷ []) ≡ line 0 2 0 3 0 (4 ∷ 2 ∷ 2 ∷ [])
+  -- "K3 narrow board 1: 3 1 1, open, done 3."
+  pub k3 : lastAnswer H (narrow 2 1 ∷ []) ≡ line 0 1 0 3 0 (3 ∷ 1 ∷ 1 ∷ [])
+  -- "K4 then motor 2: dead, zeros."
+  pub k4 : lastAnswer H (narrow 2 1 ∷ narrow 1 2 ∷ []) ≡ line 0 0 0 0 0 (0 ∷ 0 ∷ 0 ∷ [])
+  -- "K5 narrow width 2: 2 3 3, done 1."
+  pub k5 : lastAnswer H (narrow 0 2 ∷ []) ≡ line 0 1 0 1 0 (2 ∷ 3 ∷ 3 ∷ [])
+  -- "K6 finish at opening: 1 1 1."
+  pub k6 : lastAnswer H (finish ∷ []) ≡ line 0 1 0 0 1 (1 ∷ 1 ∷ 1 ∷ [])
+  -- "K7 three columns of 2 values and a sheet 01 10 on each pair: domains 3 3 3, finish none."
+  pub k7 : (domains H7 [] ≡ 3 ∷ 3 ∷ 3 ∷ []) × (lastAnswer H7 (finish ∷ []) ≡ line 0 1 0 0 2 (0 ∷ 0 ∷ 0 ∷ []))
+  -- "K8 a sheet without rows: dead."
+  pub k8 : lastAnswer H8 [] ≡ line 0 0 0 0 0 (0 ∷ 0 ∷ 0 ∷ [])
+  -- "K9 no sheets: all values stay."
+  pub k9 : lastAnswer H9 [] ≡ line 0 1 0 0 0 (7 ∷ 3 ∷ 3 ∷ [])
+  -- "K10 narrow width 8: refusal 22."
+  pub k10 : lastAnswer H (narrow 0 8 ∷ []) ≡ line 22 1 0 0 0 (7 ∷ 3 ∷ 3 ∷ [])
+
+-- "On H with mark, narrow board 1, finish, back 1, back 1, narrow width 4"
+abbrev pub sevenOrders : List (List ℕ)
+sevenOrders = mark ∷ narrow 2 1 ∷ finish ∷ back 1 ∷ back 1 ∷ narrow 0 4 ∷ []
+
+pub record SevenLines : Type 0 where
+  pub lines : answers H sevenOrders
+      ≡ line 0 1 0 0 0 (7 ∷ 3 ∷ 3 ∷ [])
+      ∷ line 0 1 1 0 0 (7 ∷ 3 ∷ 3 ∷ [])
+      ∷ line 0 1 1 3 0 (3 ∷ 1 ∷ 1 ∷ [])
+      ∷ line 0 1 1 3 1 (1 ∷ 1 ∷ 1 ∷ [])
+      ∷ line 0 1 0 0 0 (7 ∷ 3 ∷ 3 ∷ [])
+      ∷ line 24 1 0 0 0 (7 ∷ 3 ∷ 3 ∷ [])
+      ∷ line 0 2 0 3 0 (4 ∷ 2 ∷ 2 ∷ [])
+      ∷ []
+  -- "accepted 5"
+  pub accepted : acceptedCount H sevenOrders ≡ 5
+
+-- ---- the search
+-- two columns of 2 values and the sheet 01 10
+abbrev pub H2 : Book
+H2 = record { counts = 2 ∷ 2 ∷ []; sheets = sheetOf (0 ∷ 1 ∷ []) unequal ∷ [] }
+
+pub record SearchFacts : Type 0 where
+  -- K6 and K7 by the search
+  pub k6 : searchSolution H (domains H []) ≡ some (0 ∷ 0 ∷ 0 ∷ [])
+  pub k7 : searchSolution H7 (domains H7 []) ≡ none
+  -- "The search sets the lowest column that isn't single": the highest first would find 10
+  pub lowest-column : searchSolution H2 (domains H2 []) ≡ some (0 ∷ 1 ∷ [])
+
+-- ---- refusals: "Within a kind, the cause written first counts"
+-- an order with an argument, byte 2, byte 3, the mask's lowest and its highest byte
+abbrev pub order : ℕ → ℕ → ℕ → ℕ → ℕ → ℕ → List ℕ
+order k a x y lo hi = k ∷ a ∷ x ∷ y ∷ lo ∷ 0 ∷ 0 ∷ hi ∷ []
+
+-- a trail of n checkpoints
+abbrev pub checkpoints : ℕ → List Entry
+checkpoints zero = []
+checkpoints (suc n) = checkpoint ∷ checkpoints n
+
+pub record RefusalFacts : Type 0 where
+  -- narrow: 25, then 21, then 22
+  pub narrow-byte-2 : refusal H [] (order 1 3 1 0 255 0) ≡ 25
+  pub narrow-byte-3 : refusal H [] (order 1 3 0 1 255 0) ≡ 25
+  pub narrow-column : refusal H [] (order 1 3 0 0 255 0) ≡ 21
+  pub narrow-mask : refusal H [] (order 1 1 0 0 4 0) ≡ 22
+  pub narrow-mask-high : refusal H [] (order 1 1 0 0 3 128) ≡ 22
+  pub narrow-all : refusal H [] (order 1 0 0 0 7 0) ≡ 0
+  -- "mask 0 is accepted and makes the session dead", its finish "says none", and a back past it brings it back to life
+  pub narrow-none : lastAnswer H (narrow 1 0 ∷ []) ≡ line 0 0 0 0 0 (0 ∷ 0 ∷ 0 ∷ [])
+  pub dead-finish : lastAnswer H (narrow 1 0 ∷ finish ∷ []) ≡ line 0 0 0 0 2 (0 ∷ 0 ∷ 0 ∷ [])
+  pub dead-back : lastAnswer H (mark ∷ narrow 1 0 ∷ back 1 ∷ []) ≡ line 0 1 0 0 0 (7 ∷ 3 ∷ 3 ∷ [])
+  -- mark: 25, then 23; "mark 16 is accepted, mark 17 refused"
+  pub mark-argument : refusal H (checkpoints 16) (order 2 1 0 0 0 0) ≡ 25
+  pub mark-last-byte : refusal H (checkpoints 16) (order 2 0 0 0 0 1) ≡ 25
+  pub mark-16 : refusal H (checkpoints 15) mark ≡ 0
+  pub mark-17 : refusal H (checkpoints 16) mark ≡ 23
+  -- back: 25, then 24
+  pub back-byte-2 : refusal H [] (order 3 0 1 0 0 0) ≡ 25
+  pub back-last-byte : refusal H [] (order 3 0 0 0 0 1) ≡ 25
+  pub back-0 : refusal H (checkpoints 2) (back 0) ≡ 24
+  pub back-above : refusal H (checkpoints 2) (back 3) ≡ 24
+  pub back-depth : refusal H (checkpoints 2) (back 2) ≡ 0
+  -- finish: 25
+  pub finish-argument : refusal H [] (order 4 1 0 0 0 0) ≡ 25
+  pub finish-last-byte : refusal H [] (order 4 0 0 0 0 1) ≡ 25
+  -- a refused finish has byte 3 zero and shows the domains
+  pub finish-refused : lastAnswer H (order 4 1 0 0 0 0 ∷ []) ≡ line 25 1 0 0 0 (7 ∷ 3 ∷ 3 ∷ [])
+  -- "Other kinds are refused with 20, before the rest"
+  pub kind-0 : refusal H [] (order 0 3 1 1 255 255) ≡ 20
+  pub kind-5 : refusal H [] (order 5 3 1 1 255 255) ≡ 20
+
+-- "Depth and byte 0 may differ between the lists": a mark, or an order of an unknown kind, after the opening
+abbrev pub unknown : List ℕ
+unknown = 9 ∷ 0 ∷ 0 ∷ 0 ∷ 0 ∷ 0 ∷ 0 ∷ 0 ∷ []
+
+pub record MayDiffer : Type 0 where
+  pub same-marked : SameAllowed H (trail H []) (trail H (mark ∷ []))
+  pub depths : (byte (answerBytes (lastAnswer H [])) 2 ≡ 0) × (byte (answerBytes (lastAnswer H (mark ∷ []))) 2 ≡ 1)
+  pub same-unknown : SameAllowed H (trail H []) (trail H (unknown ∷ []))
+  pub refusals : (byte (answerBytes (lastAnswer H [])) 0 ≡ 0) × (byte (answerBytes (lastAnswer H (unknown ∷ []))) 0 ≡ 20)

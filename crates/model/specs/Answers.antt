@@ -1,0 +1,121 @@
+-- Status, done byte and answers, as values and as bytes; all answers of a list, and the number of accepted orders.
+use mathlib.Core.Bool.{Bool, cond, _&&_}
+use mathlib.Core.Option.{Option, none, some}
+use mathlib.Core.List.{List, [], _∷_, _++_, map}
+use Prim.Native.Nat.{ℕ, zero, suc, _+_, _*_, _/_, _%_, _^_}
+use lib.Dec.{eqb, ltb, leb}
+use lib.ListN.{length, getD}
+use Rattle.model.specs.Tests.{allBelow, oneIf, count, tab}
+use Rattle.model.specs.Masks.{size}
+use Rattle.model.specs.Stores.{allFilled}
+use Rattle.model.specs.Books.{Sheet, Book, columnCount}
+use Rattle.model.specs.Solutions.{firstSolution}
+use Rattle.model.specs.Orders.{kind, Entry, depth, refusal, isAccepted, push, domains}
+
+-- ---- status and done
+-- every column holds one value
+unfoldable pub assigned : Book → List ℕ → Bool
+assigned b D = allBelow (columnCount b) (λ c. eqb (size (getD D c 0)) 1)
+
+-- "0 dead; 2 decided, each column holds one value; 1 open, otherwise" (failed, assigned)
+unfoldable pub statusOf : Book → List ℕ → ℕ
+statusOf b D = cond (allFilled (columnCount b) D) (cond (assigned b D) 2 1) 0
+
+-- a sheet is subsumed (document 01: done) when "at most one column of s holds more than one value"
+unfoldable pub subsumed : List ℕ → Sheet → Bool
+subsumed D s = leb (count (length (s .columns)) (λ i. ltb 1 (size (getD D (getD (s .columns) i 0) 0)))) 1
+
+unfoldable pub subsumedBits : List ℕ → List Sheet → ℕ
+subsumedBits D [] = 0
+subsumedBits D (s ∷ ss) = oneIf (subsumed D s) + 2 * subsumedBits D ss
+
+-- "The done byte has bit s for sheet s", and a dead session has none
+unfoldable pub doneOf : Book → List ℕ → ℕ
+doneOf b D = cond (allFilled (columnCount b) D) (subsumedBits D (b .sheets)) 0
+
+-- ---- answers
+pub record Answer : Type 0 where
+  pub refused : ℕ
+  pub status : ℕ
+  pub marks : ℕ
+  pub outcome : ℕ
+  pub done : ℕ
+  pub shown : List ℕ
+
+-- the state that the trail L leaves, with a refusal or 0
+unfoldable pub showing : Book → List Entry → ℕ → Answer
+showing b L r =
+    record { refused = r; status = statusOf b (domains b L); marks = depth L; outcome = 0; done = doneOf b (domains b L); shown = domains b L }
+
+-- "for an accepted finish 1 found, 2 none"
+abbrev pub outcomeOf : Option (List ℕ) → ℕ
+outcomeOf (some x) = 1
+outcomeOf none = 2
+
+-- "the full set there, one bit for each column, or zeros for none"
+abbrev pub solutionMasks : ℕ → Option (List ℕ) → List ℕ
+solutionMasks C (some x) = map (λ v. 2 ^ v) x
+solutionMasks C none = tab C (λ c. 0)
+
+-- an accepted finish: "The state stays"
+unfoldable pub finishing : Book → List Entry → Answer
+finishing b L =
+    record {
+      refused = 0;
+      status = statusOf b (domains b L);
+      marks = depth L;
+      outcome = outcomeOf (firstSolution b (domains b L));
+      done = doneOf b (domains b L);
+      shown = solutionMasks (columnCount b) (firstSolution b (domains b L));
+    }
+
+-- the answer to an order that comes when L stands: "A refused order shows the unchanged state"
+unfoldable pub answer : Book → List Entry → List ℕ → Answer
+answer b L o = cond (eqb (kind o) 4 && isAccepted b L o) (finishing b L) (showing b (push b L o) (refusal b L o))
+
+-- "Answer 0 is the opening"
+abbrev pub opening : Book → Answer
+opening b = showing b [] 0
+
+-- ---- whole lists
+unfoldable pub answersFrom : Book → List Entry → List (List ℕ) → List Answer
+answersFrom b L [] = []
+answersFrom b L (o ∷ os) = answer b L o ∷ answersFrom b (push b L o) os
+
+-- all answers of a list, the opening first
+abbrev pub answers : Book → List (List ℕ) → List Answer
+answers b os = opening b ∷ answersFrom b [] os
+
+unfoldable pub lastFrom : Book → List Entry → Answer → List (List ℕ) → Answer
+lastFrom b L a [] = a
+lastFrom b L a (o ∷ os) = lastFrom b (push b L o) (answer b L o) os
+
+-- the last answer: "answer 0 for an empty list"
+abbrev pub lastAnswer : Book → List (List ℕ) → Answer
+lastAnswer b os = lastFrom b [] (opening b) os
+
+unfoldable pub acceptedFrom : Book → List Entry → List (List ℕ) → ℕ
+acceptedFrom b L [] = 0
+acceptedFrom b L (o ∷ os) = oneIf (isAccepted b L o) + acceptedFrom b (push b L o) os
+
+-- "the number of accepted orders"
+abbrev pub acceptedCount : Book → List (List ℕ) → ℕ
+acceptedCount b os = acceptedFrom b [] os
+
+-- ---- the 72 bytes of an answer
+--
+--     0        1       2      3        4     5  6  7   8 .. 11   12 .. 15        68 .. 71
+--     refusal  status  depth  outcome  done  0  0  0   domain 0  domain 1   ..   domain 15
+--
+-- a number of 32 bits as four bytes, the lowest first
+abbrev pub wordBytes : ℕ → List ℕ
+wordBytes x = x % 256 ∷ x / 256 % 256 ∷ x / 65536 % 256 ∷ x / 16777216 % 256 ∷ []
+
+-- the first n domains, "zero from C on"
+unfoldable pub domainBytes : List ℕ → ℕ → List ℕ
+domainBytes D zero = []
+domainBytes D (suc n) = domainBytes D n ++ wordBytes (getD D n 0)
+
+unfoldable pub answerBytes : Answer → List ℕ
+answerBytes a =
+    a .refused ∷ a .status ∷ a .marks ∷ a .outcome ∷ a .done ∷ 0 ∷ 0 ∷ 0 ∷ domainBytes (a .shown) 16

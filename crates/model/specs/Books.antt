@@ -1,0 +1,97 @@
+-- A book: columns, and sheets of rows. What its consistent stores and closure are: "What settled means" of document 01.
+use mathlib.Core.Path.{_≡_}
+use mathlib.Core.Bool.{Bool, true, false, not, _&&_, _||_}
+use mathlib.Core.List.{List, [], _∷_, List·Memᴰ}
+use Prim.Native.Nat.{ℕ, _≤_, _<_}
+use lib.Dec.{eqb}
+use lib.ListN.{length, getD}
+use Rattle.model.specs.Tests.{allIn, anyIn, eqList}
+use Rattle.model.specs.Stores.{has, Within}
+use Rattle.model.specs.Closure.{closureOf}
+use Rattle.model.specs.Choices.{pick, Takes, anyChoice}
+
+-- ---- books
+-- a sheet: its columns, rising, and its rows, each with one value for each of those columns
+pub record Sheet : Type 0 where
+  pub columns : List ℕ
+  pub rows : List (List ℕ)
+
+-- a book: the number of values V of each column ("The values are 0 to V − 1"), and the sheets
+pub record Book : Type 0 where
+  pub counts : List ℕ
+  pub sheets : List Sheet
+
+-- the number of columns C
+abbrev pub columnCount : Book → ℕ
+columnCount b = length (b .counts)
+
+-- the sheet allows the values t in its columns: they form a row. Nothing else looks at rows to say what is allowed
+unfoldable pub allows : Sheet → List ℕ → Bool
+allows s t = anyIn (s .rows) (eqList t)
+
+-- "width k, 1 to 4", "k column numbers below C, each above the one before", "rows n, 0 to 508", "k values, each below its column's V"
+pub record WellFormedSheet (counts : List ℕ) (s : Sheet) : Type 0 where
+  pub some-column : 0 < length (s .columns)
+  pub few-columns : length (s .columns) ≤ 4
+  pub rising : (i j : ℕ) → i < j → j < length (s .columns) → getD (s .columns) i 0 < getD (s .columns) j 0
+  pub inside : (i : ℕ) → i < length (s .columns) → getD (s .columns) i 0 < length counts
+  pub few-rows : length (s .rows) ≤ 508
+  pub row-size : (r : ℕ) → r < length (s .rows) → length (getD (s .rows) r []) ≡ length (s .columns)
+  pub row-value : (r i : ℕ) → r < length (s .rows) → i < length (s .columns)
+      → getD (getD (s .rows) r []) i 0 < getD counts (getD (s .columns) i 0) 0
+
+-- "columns C, 1 to 16", "sheets S, 0 to 8", "values V of column i, 1 to 32"
+pub record WellFormed (b : Book) : Type 0 where
+  pub some-column : 0 < columnCount b
+  pub few-columns : columnCount b ≤ 16
+  pub few-sheets : length (b .sheets) ≤ 8
+  pub some-value : (c : ℕ) → c < columnCount b → 0 < getD (b .counts) c 0
+  pub few-values : (c : ℕ) → c < columnCount b → getD (b .counts) c 0 ≤ 32
+  pub sheet : (s : Sheet) → List·Memᴰ s (b .sheets) → WellFormedSheet (b .counts) s
+
+-- ---- what settled means
+-- a support: a row of the sheet that is valid in B and has the value v at place i. "A row lies in a box when each of its values is in
+-- its column's domain" (valid): `pick B (s .columns)` are the domains of the sheet's columns
+pub record Support (B : List ℕ) (s : Sheet) (i v : ℕ) : Type 0 where
+  pub row : List ℕ
+  pub allowed : allows s row ≡ true
+  pub valid : Takes (pick B (s .columns)) row
+  pub value : getD row i 0 ≡ v
+
+-- a consistent store: "A sound box has no empty column, and in it, for each sheet, every value of every column of that sheet is carried
+-- by a row of that sheet lying in the box"
+pub record ConsistentStore (b : Book) (B : List ℕ) : Type 0 where
+  pub filled : (c : ℕ) → c < columnCount b → (v : ℕ) × (has B c v ≡ true)
+  pub support : (s : Sheet) → List·Memᴰ s (b .sheets) → (i : ℕ) → i < length (s .columns)
+      → (v : ℕ) → has B (getD (s .columns) i 0) v ≡ true → Support B s i v
+
+-- v stays in column c: "the settled domains are the union, column by column, of all sound boxes within" A
+pub record Stays (b : Book) (A : List ℕ) (c v : ℕ) : Type 0 where
+  pub store : List ℕ
+  pub consistent : ConsistentStore b store
+  pub within : Within store A
+  pub holds : has store c v ≡ true
+
+-- "If there is none": no consistent store lies within A
+pub record Fails (b : Book) (A : List ℕ) : Type 0 where
+  pub none : (B : List ℕ) → ConsistentStore b B → Within B A → ⊥
+
+-- ---- the same as a computation
+-- with these columns, t has the value v in column c
+unfoldable pub carries : List ℕ → List ℕ → ℕ → ℕ → Bool
+carries [] t c v = false
+carries (k ∷ ks) [] c v = false
+carries (k ∷ ks) (x ∷ xs) c v = (eqb k c && eqb x v) || carries ks xs c v
+
+-- in the store B, the sheet allows some choice with the value v in column c, unless c is not one of its columns
+unfoldable pub supportedIn : List ℕ → ℕ → ℕ → Sheet → Bool
+supportedIn B c v s =
+    not (anyIn (s .columns) (eqb c)) || anyChoice (pick B (s .columns)) (λ t. allows s t && carries (s .columns) t c v)
+
+-- the same of every sheet: the book's support test
+unfoldable pub supported : Book → List ℕ → ℕ → ℕ → Bool
+supported b B c v = allIn (b .sheets) (supportedIn B c v)
+
+-- the settled domains of A
+unfoldable pub closure : Book → List ℕ → List ℕ
+closure b A = closureOf (columnCount b) (supported b) A

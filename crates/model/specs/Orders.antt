@@ -1,0 +1,130 @@
+-- Orders, their refusals, and the trail (document 01: standing list): what stands, "from the book and the orders alone".
+use mathlib.Core.Bool.{Bool, true, not, cond, _&&_, _||_}
+use mathlib.Core.List.{List, [], _∷_, _++_}
+use Prim.Native.Nat.{ℕ, zero, suc, _+_, _*_}
+use lib.Dec.{eqb, ltb, leb}
+use lib.ListN.{getD}
+use Rattle.model.specs.Tests.{anyBelow}
+use Rattle.model.specs.Masks.{bit}
+use Rattle.model.specs.Stores.{storeOf}
+use Rattle.model.specs.Books.{Book, columnCount, closure}
+
+-- ---- an order is its 8 bytes: "byte 0 kind, byte 1 argument, bytes 2, 3 zero, bytes 4 to 7 a mask"
+abbrev pub byte : List ℕ → ℕ → ℕ
+byte o i = getD o i 0
+
+abbrev pub kind : List ℕ → ℕ
+kind o = byte o 0
+
+abbrev pub argument : List ℕ → ℕ
+argument o = byte o 1
+
+-- "fields of several bytes have the lowest byte first"
+abbrev pub mask : List ℕ → ℕ
+mask o = byte o 4 + 256 * byte o 5 + 65536 * byte o 6 + 16777216 * byte o 7
+
+-- one of the n bytes from k on is not zero
+unfoldable pub nonzero : ℕ → ℕ → List ℕ → Bool
+nonzero k n o = anyBelow n (λ i. not (eqb (byte o (k + i)) 0))
+
+-- the one of five that goes with the kind: narrow 1, mark 2, back 3, finish 4, any other
+abbrev pub byKind : {A : Type 0} → ℕ → A → A → A → A → A → A
+byKind k narrow mark back finish other =
+    cond (eqb k 1) narrow (cond (eqb k 2) mark (cond (eqb k 3) back (cond (eqb k 4) finish other)))
+
+-- ---- the trail
+-- what stands: a narrow of a column to a mask, or a checkpoint (document 01: bar)
+pub data Entry : Type 0 where
+  narrowed : ℕ → ℕ → Entry
+  checkpoint : Entry
+
+-- "Depth is the number of bars"
+unfoldable pub depth : List Entry → ℕ
+depth [] = 0
+depth (narrowed c m ∷ L) = depth L
+depth (checkpoint ∷ L) = suc (depth L)
+
+-- "back m cuts away bar m and all after it": what stands before checkpoint m, counted from 1
+unfoldable pub before : ℕ → List Entry → List Entry
+before m [] = []
+before m (narrowed c k ∷ L) = narrowed c k ∷ before m L
+before zero (checkpoint ∷ L) = []
+before (suc zero) (checkpoint ∷ L) = []
+before (suc (suc m)) (checkpoint ∷ L) = checkpoint ∷ before (suc m) L
+
+-- ---- refusals: "the cause written first counts"
+infix 20 refuse_if_
+pub data Cause : Type 0 where
+  refuse_if_ : ℕ → Bool → Cause
+
+unfoldable pub firstCause : List Cause → ℕ
+firstCause [] = 0
+firstCause ((refuse n if t) ∷ cs) = cond t n (firstCause cs)
+
+-- some bit of the mask at or above V of column c is set
+unfoldable pub outside : Book → ℕ → ℕ → Bool
+outside b c m = anyBelow 32 (λ v. leb (getD (b .counts) c 0) v && bit v m)
+
+-- "Refused with 25 if byte 2 or 3 isn't zero, 21 if the column isn't below C, 22 if a mask bit at or above V is set"
+abbrev pub narrowCauses : Book → List ℕ → List Cause
+narrowCauses b o =
+    (refuse 25 if nonzero 2 2 o)
+    ∷ (refuse 21 if leb (columnCount b) (argument o))
+    ∷ (refuse 22 if outside b (argument o) (mask o))
+    ∷ []
+
+-- "Refused with 25 if any of bytes 1 to 7 isn't zero, 23 if depth is 16"
+abbrev pub markCauses : List Entry → List ℕ → List Cause
+markCauses L o = (refuse 25 if nonzero 1 7 o) ∷ (refuse 23 if eqb (depth L) 16) ∷ []
+
+-- "Byte 1 is m. Refused with 25 if any of bytes 2 to 7 isn't zero, 24 if m is 0 or above the depth"
+abbrev pub backCauses : List Entry → List ℕ → List Cause
+backCauses L o = (refuse 25 if nonzero 2 6 o) ∷ (refuse 24 if eqb (argument o) 0 || ltb (depth L) (argument o)) ∷ []
+
+-- "Refused with 25 if any of bytes 1 to 7 isn't zero"
+abbrev pub finishCauses : List ℕ → List Cause
+finishCauses o = (refuse 25 if nonzero 1 7 o) ∷ []
+
+-- "Other kinds are refused with 20"
+abbrev pub otherCauses : List Cause
+otherCauses = (refuse 20 if true) ∷ []
+
+-- "An order's refusal goes by its bytes, the book and this list only": the number, or 0 where the order is accepted
+unfoldable pub refusal : Book → List Entry → List ℕ → ℕ
+refusal b L o = firstCause (byKind (kind o) (narrowCauses b o) (markCauses L o) (backCauses L o) (finishCauses o) otherCauses)
+
+abbrev pub isAccepted : Book → List Entry → List ℕ → Bool
+isAccepted b L o = eqb (refusal b L o) 0
+
+-- ---- what an order makes of the trail
+-- "an accepted narrow joins its end; a mark adds a bar; back m cuts away bar m and all after it; any other order does nothing"
+unfoldable pub applied : List Entry → List ℕ → List Entry
+applied L o =
+    byKind (kind o) (L ++ (narrowed (argument o) (mask o) ∷ [])) (L ++ (checkpoint ∷ [])) (before (argument o) L) L L
+
+-- "every refused one included, does nothing"
+unfoldable pub push : Book → List Entry → List ℕ → List Entry
+push b L o = cond (isAccepted b L o) (applied L o) L
+
+unfoldable pub trailFrom : Book → List Entry → List (List ℕ) → List Entry
+trailFrom b L [] = L
+trailFrom b L (o ∷ os) = trailFrom b (push b L o) os
+
+-- the trail after a list of orders: "it starts empty"
+abbrev pub trail : Book → List (List ℕ) → List Entry
+trail b os = trailFrom b [] os
+
+-- ---- allowed values and current domains
+-- every standing narrow of column c lets v stay
+unfoldable pub permits : List Entry → ℕ → ℕ → Bool
+permits [] c v = true
+permits (narrowed k m ∷ L) c v = (not (eqb k c) || bit v m) && permits L c v
+permits (checkpoint ∷ L) c v = permits L c v
+
+-- "Allowed values of a column are all its values met with every standing narrow of it"
+unfoldable pub allowed : Book → List Entry → List ℕ
+allowed b L = storeOf (columnCount b) (λ c v. ltb v (getD (b .counts) c 0) && permits L c v)
+
+-- "The current domains after a list are the settled domains of its allowed values"
+unfoldable pub domains : Book → List Entry → List ℕ
+domains b L = closure b (allowed b L)

@@ -1,0 +1,57 @@
+-- Valid rows (document 01: live rows) as words, the index of the words, and what a state holds when a trail stands.
+use mathlib.Core.Path.{_≡_}
+use mathlib.Core.Bool.{Bool, true, false, _&&_}
+use mathlib.Core.Logic.{_↔_}
+use mathlib.Core.List.{List, [], _∷_}
+use Prim.Native.Nat.{ℕ, _+_, _*_, _<_}
+use lib.Dec.{ltb}
+use lib.ListN.{length, getD}
+use Rattle.model.specs.Masks.{maskOf}
+use Rattle.model.specs.Stores.{has}
+use Rattle.model.specs.Books.{Sheet, Book}
+use Rattle.model.specs.Orders.{Entry, domains}
+
+-- "A row lies in a box when each of its values is in its column's domain": one value for each of these columns
+unfoldable pub valid : List ℕ → List ℕ → List ℕ → Bool
+valid D [] [] = true
+valid D [] (v ∷ r) = false
+valid D (c ∷ cs) [] = false
+valid D (c ∷ cs) (v ∷ r) = has D c v && valid D cs r
+
+-- row r of the sheet is valid in D
+unfoldable pub validRow : List ℕ → Sheet → ℕ → Bool
+validRow D s r = ltb r (length (s .rows)) && valid D (s .columns) (getD (s .rows) r [])
+
+-- word w of the sheet's valid rows: "Row r is bit r mod 64 of word r div 64"
+unfoldable pub validWord : List ℕ → Sheet → ℕ → ℕ
+validWord D s w = maskOf 64 (λ k. validRow D s (w * 64 + k))
+
+-- "An index lists word numbers as a permutation, and position i is at or below the limit exactly when the word it names isn't zero."
+-- n is one more than the limit: "With no live row the limit is −1", and n is 0
+--
+--     position   0   1   2 | 3   4   5   6   7        n = 3
+--     index      5   0   2 | 7   1   6   3   4        words 5, 0 and 2 have a valid row, the others are zero
+--
+pub record Indexed (index : ℕ → ℕ) (n : ℕ) (word : ℕ → ℕ) : Type 0 where
+  pub each : (i : ℕ) → i < 8 → index i < 8
+  pub once : (i j : ℕ) → i < 8 → j < 8 → index i ≡ index j → i ≡ j
+  pub limit : (i : ℕ) → i < 8 → (i < n) ↔ (0 < word (index i))
+
+-- ---- "eight 64-bit words for each sheet, held with the domains"
+--
+--     words   | sheet 0: 8 words | sheet 1: 8 words | ..      index   | sheet 0: 8 positions | sheet 1: 8 positions | ..
+--
+-- entry i of sheet s in an array with eight for each sheet
+abbrev pub ofSheet : List ℕ → ℕ → ℕ → ℕ
+ofSheet xs s i = getD xs (s * 8 + i) 0
+
+-- sheet s of the book
+abbrev pub sheetAt : Book → ℕ → Sheet
+sheetAt b s = getD (b .sheets) s (record { columns = []; rows = [] })
+
+-- "its domains, depth and live rows are those of the standing list and its index keeps the invariant above": all but the depth, of a state
+-- with these arrays; `counts` holds one more than the limit of each sheet
+pub record StateHolds (b : Book) (L : List Entry) (doms words index counts : List ℕ) : Type 0 where
+  pub domain : (c : ℕ) → getD doms c 0 ≡ getD (domains b L) c 0
+  pub rows : (s w : ℕ) → s < length (b .sheets) → w < 8 → ofSheet words s w ≡ validWord (domains b L) (sheetAt b s) w
+  pub indexed : (s : ℕ) → s < length (b .sheets) → Indexed (ofSheet index s) (getD counts s 0) (ofSheet words s)

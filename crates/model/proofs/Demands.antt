@@ -1,6 +1,6 @@
 -- Demands 2 and 3, proved. Assumes nothing.
 use mathlib.Core.Path.{_≡_, refl, sym, ap, _∙_, subst}
-use mathlib.Core.Bool.{Bool, true, false, _&&_, true≢false}
+use mathlib.Core.Bool.{true, false, _&&_, true≢false}
 use mathlib.Core.Logic.{_⊎_, inl, inr, _↔_}
 use mathlib.Core.List.{List, [], _∷_}
 use Prim.Native.Nat.{ℕ, zero, suc, _≤_, _<_}
@@ -15,7 +15,7 @@ use Rattle.model.specs.Solutions.{Solution, FirstSolution, firstSolution
 use Rattle.model.specs.Orders.{byte, kind, Entry, refusal, isAccepted, push, trailFrom, trail, allowed, domains}
 use Rattle.model.specs.Answers.{assigned, statusOf, doneOf, Answer, showing, outcomeOf, solutionMasks, finishing, answer, opening, lastFrom, lastAnswer, domainBytes, answerBytes}
 use Rattle.model.specs.Demands.{ChangesNothing, Demand2, SameAllowed, Narrower, SameFinish, HoldsDomains, Stepped, Chain, Run, Gives, Demand3}
-use Rattle.model.proofs.Tests.{and-l, and-r, and-i, either}
+use Rattle.model.proofs.Tests.{and-l, and-r, and-i, and-false, either}
 use Rattle.model.proofs.Stores.{store-ext, within-trans, empty-has, filled-e, filled-i}
 use Rattle.model.proofs.Books.{stays-iff, fails-iff, closed-or-empty}
 use Rattle.model.proofs.Solutions.{found-iff, none-iff, has-first, solution-mono, first-same, first-wider}
@@ -33,10 +33,6 @@ refused-order b L o n =
       same-trail = e;
       shows = rw (ne-eqb (refusal b L o) 0 n, and-false (eqb (kind o) 4), e);
     }
-  where
-    and-false : (t : Bool) → (t && false) ≡ false
-    and-false true = refl
-    and-false false = refl
 
 -- ---- demand 2
 -- no column of the empty store is filled

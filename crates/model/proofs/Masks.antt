@@ -95,59 +95,46 @@ some-bit (suc k) m h p = go (either (eqb (m % 2) 1)) (some-bit k (m / 2) (omega 
         let q : m % 2 ≡ 1 → ⊥ = eqb-false (m % 2) 1 e in
         let s = r (omega arith) in (suc (s .0), omega arith, bit-suc (s .0) m ∙ s .2)
 
--- the places of `a & b` are those of both
-digit-and : (a b : ℕ) → a < 2 → b < 2 → eqb (min a b) 1 ≡ (eqb a 1 && eqb b 1)
-digit-and zero b ha hb = ne-eqb (min 0 b) 1 (λ e. omega arith)
-digit-and (suc zero) zero ha hb = refl
-digit-and (suc zero) (suc zero) ha hb = refl
-digit-and (suc zero) (suc (suc b)) ha hb = absurd (omega arith)
-digit-and (suc (suc a)) b ha hb = absurd (omega arith)
+-- ---- `&` and `|`: any operation that works digit by digit works place by place
+module _ (op digits : ℕ → ℕ → ℕ) (both : Bool → Bool → Bool)
+    (op-step : (a b : ℕ) → op a b ≡ op (a / 2) (b / 2) * 2 + digits (a % 2) (b % 2))
+    (digits-lt : (x y : ℕ) → x < 2 → y < 2 → digits x y < 2)
+    (digits-both : (x y : ℕ) → x < 2 → y < 2 → eqb (digits x y) 1 ≡ both (eqb x 1) (eqb y 1)) where
+  pub bit-op : (v a b : ℕ) → bit v (op a b) ≡ both (bit v a) (bit v b)
+  bit-op zero a b =
+      let low : op a b % 2 ≡ digits (a % 2) (b % 2) = omega (arith, op-step a b, digits-lt (a % 2) (b % 2) (omega arith) (omega arith)) in
+      bit-zero (op a b)
+      ∙ ap (λ (x : ℕ). eqb x 1) low
+      ∙ digits-both (a % 2) (b % 2) (omega arith) (omega arith)
+      ∙ ap₂ both (sym (bit-zero a)) (sym (bit-zero b))
+  bit-op (suc v) a b =
+      let high : op a b / 2 ≡ op (a / 2) (b / 2) = omega (arith, op-step a b, digits-lt (a % 2) (b % 2) (omega arith) (omega arith)) in
+      bit-suc v (op a b)
+      ∙ ap (bit v) high
+      ∙ bit-op v (a / 2) (b / 2)
+      ∙ ap₂ both (sym (bit-suc v a)) (sym (bit-suc v b))
 
+-- two digits, case by case
+digit-cases : (P : ℕ → ℕ → Type 0) → P 0 0 → P 0 1 → P 1 0 → P 1 1 → (x y : ℕ) → x < 2 → y < 2 → P x y
+digit-cases P p q r s zero zero h k = p
+digit-cases P p q r s zero (suc zero) h k = q
+digit-cases P p q r s (suc zero) zero h k = r
+digit-cases P p q r s (suc zero) (suc zero) h k = s
+digit-cases P p q r s (suc (suc x)) y h k = absurd (omega arith)
+digit-cases P p q r s zero (suc (suc y)) h k = absurd (omega arith)
+digit-cases P p q r s (suc zero) (suc (suc y)) h k = absurd (omega arith)
+
+-- the places of `a & b` are those of both
 pub bit-and : (v a b : ℕ) → bit v (bitAnd a b) ≡ (bit v a && bit v b)
-bit-and zero a b =
-    bit-zero (bitAnd a b)
-    ∙ ap (λ (x : ℕ). eqb x 1) (ap (λ (x : ℕ). x % 2) (and-step a b) ∙ low2)
-    ∙ digit-and (a % 2) (b % 2) (omega arith) (omega arith)
-    ∙ ap₂ _&&_ (sym (bit-zero a)) (sym (bit-zero b))
-  where
-    low2 : (bitAnd (a / 2) (b / 2) * 2 + min (a % 2) (b % 2)) % 2 ≡ min (a % 2) (b % 2)
-    low2 = omega arith
-bit-and (suc v) a b =
-    bit-suc v (bitAnd a b)
-    ∙ ap (bit v) (ap (λ (x : ℕ). x / 2) (and-step a b) ∙ rest)
-    ∙ bit-and v (a / 2) (b / 2)
-    ∙ ap₂ _&&_ (sym (bit-suc v a)) (sym (bit-suc v b))
-  where
-    rest : (bitAnd (a / 2) (b / 2) * 2 + min (a % 2) (b % 2)) / 2 ≡ bitAnd (a / 2) (b / 2)
-    rest = omega arith
+bit-and =
+    bit-op bitAnd min _&&_ and-step (λ x y h k. omega arith)
+    (digit-cases (λ x y. eqb (min x y) 1 ≡ (eqb x 1 && eqb y 1)) refl refl refl refl)
 
 -- the places of `a | b` are those of either
-digit-or : (a b : ℕ) → a < 2 → b < 2 → eqb (max a b) 1 ≡ (eqb a 1 || eqb b 1)
-digit-or zero zero ha hb = refl
-digit-or zero (suc zero) ha hb = refl
-digit-or zero (suc (suc b)) ha hb = absurd (omega arith)
-digit-or (suc zero) zero ha hb = refl
-digit-or (suc zero) (suc zero) ha hb = refl
-digit-or (suc zero) (suc (suc b)) ha hb = absurd (omega arith)
-digit-or (suc (suc a)) b ha hb = absurd (omega arith)
-
 pub bit-or : (v a b : ℕ) → bit v (bitOr a b) ≡ (bit v a || bit v b)
-bit-or zero a b =
-    bit-zero (bitOr a b)
-    ∙ ap (λ (x : ℕ). eqb x 1) (ap (λ (x : ℕ). x % 2) (or-step a b) ∙ low2)
-    ∙ digit-or (a % 2) (b % 2) (omega arith) (omega arith)
-    ∙ ap₂ _||_ (sym (bit-zero a)) (sym (bit-zero b))
-  where
-    low2 : (bitOr (a / 2) (b / 2) * 2 + max (a % 2) (b % 2)) % 2 ≡ max (a % 2) (b % 2)
-    low2 = omega arith
-bit-or (suc v) a b =
-    bit-suc v (bitOr a b)
-    ∙ ap (bit v) (ap (λ (x : ℕ). x / 2) (or-step a b) ∙ rest)
-    ∙ bit-or v (a / 2) (b / 2)
-    ∙ ap₂ _||_ (sym (bit-suc v a)) (sym (bit-suc v b))
-  where
-    rest : (bitOr (a / 2) (b / 2) * 2 + max (a % 2) (b % 2)) / 2 ≡ bitOr (a / 2) (b / 2)
-    rest = omega arith
+bit-or =
+    bit-op bitOr max _||_ or-step (λ x y h k. omega arith)
+    (digit-cases (λ x y. eqb (max x y) 1 ≡ (eqb x 1 || eqb y 1)) refl refl refl refl)
 
 -- a mask below 2 ^ k has no place from k on
 pub bit-high : (k m v : ℕ) → m < 2 ^ k → k ≤ v → bit v m ≡ false

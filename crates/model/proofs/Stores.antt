@@ -1,5 +1,5 @@
 -- Laws of stores: what a store has, and when two are equal. Assumes nothing.
-use mathlib.Core.Path.{_≡_, refl, sym, ap, _∙_, subst}
+use mathlib.Core.Path.{_≡_, sym, ap, _∙_, subst}
 use mathlib.Core.Bool.{Bool, true, false, not, _&&_, _||_, false≢true}
 use mathlib.Core.Logic.{_⊎_, inl, inr}
 use mathlib.Core.List.{List}
@@ -16,7 +16,7 @@ use borrow.Author.Tests.{eqb-true, eqb-false, eq-eqb, ne-eqb}
 use Rattle.model.specs.Tests.{anyBelow, oneIf, sum, tab}
 use Rattle.model.specs.Masks.{bit, maskOf}
 use Rattle.model.specs.Stores.{has, Within, IsStore, storeOf, emptyStore, meet, assign, allFilled, values}
-use Rattle.model.proofs.Tests.{either, allBelow-e, allBelow-i, anyBelow-e, anyBelow-i, sum-le, sum-eq, oneIf-le, oneIf-eq, length-tab, getD-tab, getD-tab-out, tab-same, below}
+use Rattle.model.proofs.Tests.{and-true, either, allBelow-e, allBelow-i, anyBelow-e, anyBelow-i, sum-le, sum-eq, oneIf-le, oneIf-eq, length-tab, getD-tab, getD-tab-out, tab-same, below}
 use Rattle.model.proofs.Masks.{bit-of-zero, bit-maskOf, bit-maskOf-out, maskOf-lt, maskOf-same, mask-ext, bit-and, bit-below, bit-pow, bit-pow-only}
 
 pub has-i : (C : ℕ) (f : ℕ → ℕ → Bool) (c v : ℕ) → c < C → v < 32 → f c v ≡ true → has (storeOf C f) c v ≡ true
@@ -134,10 +134,6 @@ pub meet-has : (D : List ℕ) (c m k v : ℕ) → c < length D → has (meet D c
 unfolding has
 meet-has D c m k v l = go (same-or-other D c (bitAnd (getD D c 0) m) k l)
   where
-    and-true : (a : Bool) → (a && true) ≡ a
-    and-true true = refl
-    and-true false = refl
-
     go : ((c ≡ k) × (getD (meet D c m) k 0 ≡ bitAnd (getD D c 0) m)) ⊎ ((c ≡ k → ⊥) × (getD (meet D c m) k 0 ≡ getD D k 0))
         → bit v (getD (meet D c m) k 0) ≡ (bit v (getD D k 0) && (not (eqb c k) || bit v m))
     go (inl p) = rw (p .1, eq-eqb c k (p .0)) (bit-and v (getD D c 0) m ∙ ap (λ (j : ℕ). bit v (getD D j 0) && bit v m) (p .0))

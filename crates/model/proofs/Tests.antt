@@ -35,6 +35,18 @@ pub or-r : (a b : Bool) → b ≡ true → (a || b) ≡ true
 or-r true b p = refl
 or-r false b p = p
 
+pub and-true : (a : Bool) → (a && true) ≡ a
+and-true true = refl
+and-true false = refl
+
+pub and-false : (a : Bool) → (a && false) ≡ false
+and-false true = refl
+and-false false = refl
+
+pub and-assoc : (a b d : Bool) → (a && (b && d)) ≡ ((a && b) && d)
+and-assoc true b d = refl
+and-assoc false b d = refl
+
 -- a test is true, or it is false
 pub either : (b : Bool) → (b ≡ true) ⊎ (b ≡ false)
 either true = inl refl

@@ -1,6 +1,6 @@
 -- Laws of trails: checkpoints, allowed values, and how a narrow may start from the current domains. Assumes nothing.
 use mathlib.Core.Path.{_≡_, refl, sym, ap, _∙_}
-use mathlib.Core.Bool.{Bool, true, false, not, _&&_, _||_}
+use mathlib.Core.Bool.{Bool, true, not, _&&_, _||_}
 use mathlib.Core.List.{List, [], _∷_, _++_}
 use Prim.Native.Nat.{ℕ, zero, suc, _+_, _≤_, _<_}
 use native.Mathlib.Nat.{not-suc-le-zero, le-of-suc-le-suc}
@@ -14,7 +14,7 @@ use Rattle.model.specs.Closure.{Between}
 use Rattle.model.specs.Books.{Book, columnCount, supported, closure}
 use Rattle.model.specs.Orders.{Entry, narrowed, checkpoint, depth, before, isAccepted, push, trailFrom, permits, allowed, domains}
 use Rattle.model.specs.Answers.{Answer, answer, answersFrom, lastFrom, acceptedFrom}
-use Rattle.model.proofs.Tests.{and-l, and-r, and-i}
+use Rattle.model.proofs.Tests.{and-l, and-r, and-i, and-true, and-assoc}
 use Rattle.model.proofs.Stores.{has-i, has-e, storeOf-same, is-store, meet-has, meet-store}
 use Rattle.model.proofs.Closure.{closure-within, closure-store, closure-mono, between-same, closure-again}
 use Rattle.model.proofs.Books.{supported-mono}
@@ -93,14 +93,6 @@ before-before (suc (suc m)) (suc (suc k)) (checkpoint ∷ L) p h =
     ap (λ (X : List Entry). checkpoint ∷ X) (before-before (suc m) (suc k) L (omega arith) (le-of-suc-le-suc h))
 
 -- ---- what the trail permits
-and-assoc : (a b d : Bool) → (a && (b && d)) ≡ ((a && b) && d)
-and-assoc true b d = refl
-and-assoc false b d = refl
-
-and-true : (a : Bool) → (a && true) ≡ a
-and-true true = refl
-and-true false = refl
-
 permits-append : (L M : List Entry) (c v : ℕ) → permits (L ++ M) c v ≡ (permits L c v && permits M c v)
 unfolding permits
 permits-append [] M c v = refl

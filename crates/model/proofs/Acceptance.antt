@@ -9,11 +9,11 @@ use Rattle.model.specs.Books.{allows, carries, supportedIn, supported, c
 use Rattle.model.specs.Solutions.{formsRows, firstSolution}
 use Rattle.model.specs.Search.{openColumn, valueOf, searchFrom, searchSolution}
 use Rattle.model.specs.Orders.{nonzero, depth, before, firstCause, outside, refusal, applied, push, trailFrom, permits, allowed, domains}
-use Rattle.model.specs.Answers.{assigned, statusOf, subsumed, subsumedBits, doneOf, showing, finishing, answer, answersFrom, lastFrom, acceptedFrom, answerBytes}
-use Rattle.model.specs.Acceptance.{TenFacts, SevenLines, SearchFacts, RefusalFacts, MayDiffer}
+use Rattle.model.specs.Answers.{assigned, statusOf, subsumed, subsumedBits, doneOf, showing, finishing, answer, answersFrom, lastFrom, acceptedFrom, domainBytes, answerBytes}
+use Rattle.model.specs.Acceptance.{TenFacts, SevenLines, SearchFacts, RefusalFacts, ByteFacts, MayDiffer}
 
 -- opens every definition that an example computes with
-computing : Unit {0}
+unfoldable pub computing : Unit {0}
 unfolding lowest allBelow anyBelow allIn anyIn sum count eqList tab bit maskOf has storeOf emptyStore allFilled values strike rounds allRounds closureOf firstOf first anyChoice allows carries supportedIn supported closure formsRows firstSolution nonzero depth before firstCause outside refusal applied push trailFrom permits allowed domains assigned statusOf subsumed subsumedBits doneOf showing finishing answer answersFrom lastFrom acceptedFrom answerBytes openColumn valueOf searchFrom searchSolution
 computing = tt
 
@@ -52,8 +52,9 @@ refusalFacts =
       narrow-mask-high = refl;
       narrow-all = refl;
       narrow-none = refl;
-      dead-finish = refl;
-      dead-back = refl;
+      failed-finish = refl;
+      failed-back = refl;
+      failed-refusal = refl;
       mark-argument = refl;
       mark-last-byte = refl;
       mark-16 = refl;
@@ -69,6 +70,10 @@ refusalFacts =
       kind-0 = refl;
       kind-5 = refl;
     }
+
+pub byteFacts : ByteFacts
+unfolding computing domainBytes
+byteFacts = record { narrow-bytes = refl; finish-bytes = refl }
 
 pub mayDiffer : MayDiffer
 unfolding computing

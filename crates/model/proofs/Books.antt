@@ -100,7 +100,7 @@ support-e B counts s p i l v e = go (or-e (not (anyIn (s .columns) (eqb (getD (s
         let same : j .0 ≡ i = distinct (s .columns) (p .rising) (j .0) i (j .1) l (j .2) in
         record {
           row = r .0;
-          allowed = and-l (allows s (r .0)) _ (r .2);
+          sheet-allows = and-l (allows s (r .0)) _ (r .2);
           valid = r .1;
           value = ap (λ (k : ℕ). getD (r .0) k 0) (sym same) ∙ j .3;
         }
@@ -119,7 +119,7 @@ support-i B d s c v h = go (either (anyIn (s .columns) (eqb c)))
         let k = h (i .0) (i .1) (i .2) in
         or-r (not (anyIn (s .columns) (eqb c))) _
         (anyChoice-i (pick B (s .columns)) (pick-small B (s .columns) d) (λ t. allows s t && carries (s .columns) t c v) (k .row) (k .valid)
-        (and-i (k .allowed)
+        (and-i (k .sheet-allows)
         (rw (i .2) at (carries-i (s .columns) (k .row) (i .0) v (k .valid .size ∙ length-pick B (s .columns)) (i .1) (k .value)))))
 
 -- ---- consistent by the test, consistent by the paper
@@ -152,7 +152,7 @@ consistent-same b B D w u h =
           let k = h .support s m i l v (u .at (getD (s .columns) i 0) v e) in
           record {
             row = k .row;
-            allowed = k .allowed;
+            sheet-allows = k .sheet-allows;
             valid = takes-mono (pick B (s .columns)) (pick D (s .columns)) (k .row) (length-pick B (s .columns) ∙ sym (length-pick D (s .columns))) (pick-within B D (s .columns) w) (k .valid);
             value = k .value;
           };
@@ -246,7 +246,7 @@ no-rows-fail b p s m e A a = fails-iff b p A a .1 (record { none = gone })
         let q = p .sheet s m in
         let r = h .filled (getD (s .columns) 0 0) (q .inside 0 (q .some-column)) in
         let k = h .support s m 0 (q .some-column) (r .0) (r .1) in
-        List·Memᴰ·not-nil (subst (λ (l : List (List ℕ)). List·Memᴰ (k .row) l) e (allows-e s (k .row) (k .allowed)))
+        List·Memᴰ·not-nil (subst (λ (l : List (List ℕ)). List·Memᴰ (k .row) l) e (allows-e s (k .row) (k .sheet-allows)))
 
 -- in a book without sheets all values stay, where no column is empty: K9 for every such book
 pub no-sheets-stay : (b : Book) → b .sheets ≡ [] → (A : List ℕ) → IsStore (columnCount b) A

@@ -1,117 +1,32 @@
 -- Demands 2 and 3, proved. Assumes nothing.
-use mathlib.Core.Path.{_≡_, refl, sym, ap, _∙_, subst}
-use mathlib.Core.Bool.{true, false, _&&_, true≢false}
+use mathlib.Core.Path.{_≡_, refl, sym, ap, ap₂, _∙_, subst}
+use mathlib.Core.Bool.{Bool, true, false, not, _&&_, _||_, false≢true, true≢false}
 use mathlib.Core.Logic.{_⊎_, inl, inr, _↔_}
-use mathlib.Core.List.{List, [], _∷_}
-use Prim.Native.Nat.{ℕ, zero, suc, _≤_, _<_}
+use mathlib.Core.Option.{none, some}
+use mathlib.Core.List.{List, [], _∷_, _++_}
+use Prim.Native.Nat.{ℕ, zero, suc, _+_, _≤_, _<_}
 use native.Mathlib.Omega.{arith}
 use lib.Dec.{eqb}
 use lib.ListN.{getD}
 use borrow.Author.Tests.{eqb-true, eq-eqb, ne-eqb}
-use Rattle.model.specs.Stores.{has, Within, emptyStore, allFilled}
+use Rattle.model.specs.Tests.{oneIf}
+use Rattle.model.specs.Masks.{bit}
+use Rattle.model.specs.Stores.{has, Within, IsStore, emptyStore, allFilled}
 use Rattle.model.specs.Choices.{Lower}
 use Rattle.model.specs.Books.{Book, columnCount, WellFormed, ConsistentStore, Stays, Fails, closure}
 use Rattle.model.specs.Solutions.{Solution, FirstSolution, firstSolution}
-use Rattle.model.specs.Orders.{byte, kind, Entry, refusal, isAccepted, push, trailFrom, trail, allowed, domains}
-use Rattle.model.specs.Answers.{assigned, statusOf, doneOf, Answer, showing, outcomeOf, solutionMasks, finishing, answer, opening, lastFrom, lastAnswer, domainBytes, answerBytes}
-use Rattle.model.specs.Demands.{ChangesNothing, Demand2, SameAllowed, Narrower, SameFinish, HoldsDomains, Stepped, Chain, Run, Gives, Demand3}
+use Rattle.model.specs.Orders.{byte, kind, argument, mask, Entry, narrowed, refusal, isAccepted, push, trailFrom, trail, allowed, domains}
+use Rattle.model.specs.Answers.{assigned, statusOf, doneOf, Answer, showing, outcomeOf, solutionMasks, finishing, answer, opening, answersFrom, lastFrom, lastAnswer, acceptedFrom, domainBytes, answerBytes}
+use Rattle.model.specs.Demands.{ChangesNothing, unrefused, Demand2, ShowsState, ShowsFinish, EveryAnswer, SameAllowed, Narrower, SameFinish, HoldsDomains, Stepped, Chain, Run, Gives, Demand3, Claim1, Claim2, Claim3}
 use Rattle.model.proofs.Tests.{and-l, and-r, and-i, and-false, either}
+use Rattle.model.proofs.Masks.{bit-of-zero}
 use Rattle.model.proofs.Stores.{store-ext, within-trans, empty-has, filled-e, filled-i}
+use Rattle.model.proofs.Choices.{opt}
 use Rattle.model.proofs.Books.{stays-iff, fails-iff, closed-or-empty}
 use Rattle.model.proofs.Solutions.{found-iff, none-iff, has-first, solution-mono, first-same, first-wider}
 use Rattle.model.proofs.Search.{search-first}
-use Rattle.model.proofs.Trails.{allowed-store, domains-store, domains-closed, domains-mono}
-use Rattle.model.proofs.Refusals.{push-refused, push-finish}
-
--- ---- demand 1
--- a refused order changes nothing
-pub refused-order : (b : Book) (L : List Entry) (o : List ℕ) → (refusal b L o ≡ 0 → ⊥) → ChangesNothing b L o
-unfolding answer
-refused-order b L o n =
-    let e : push b L o ≡ L = push-refused b L o n in
-    record {
-      same-trail = e;
-      shows = rw (ne-eqb (refusal b L o) 0 n, and-false (eqb (kind o) 4), e);
-    }
-
--- ---- demand 2
--- no column of the empty store is filled
-empty-unfilled : (C : ℕ) → 0 < C → allFilled C (emptyStore C) ≡ false
-empty-unfilled C pos = go (either (allFilled C (emptyStore C)))
-  where
-    go : (allFilled C (emptyStore C) ≡ true) ⊎ (allFilled C (emptyStore C) ≡ false) → allFilled C (emptyStore C) ≡ false
-    go (inl e) = let r = filled-e C (emptyStore C) e 0 pos in absurd (empty-has C 0 (r .0) (r .1))
-    go (inr e) = e
-
--- status 0: some column is empty
-status-0-e : (b : Book) (D : List ℕ) → statusOf b D ≡ 0 → allFilled (columnCount b) D ≡ false
-unfolding statusOf
-status-0-e b D e = go (either (allFilled (columnCount b) D)) (either (assigned b D))
-  where
-    go : (allFilled (columnCount b) D ≡ true) ⊎ (allFilled (columnCount b) D ≡ false) → (assigned b D ≡ true) ⊎ (assigned b D ≡ false)
-        → allFilled (columnCount b) D ≡ false
-    go (inr q) r = q
-    go (inl p) (inl r) = let z : _≡_ {A = ℕ} 2 0 = rw (p, r) at e in absurd (omega arith)
-    go (inl p) (inr r) = let z : _≡_ {A = ℕ} 1 0 = rw (p, r) at e in absurd (omega arith)
-
-status-0-i : (b : Book) (D : List ℕ) → allFilled (columnCount b) D ≡ false → statusOf b D ≡ 0
-unfolding statusOf
-status-0-i b D e = rw e
-
-module _ (b : Book) (p : WellFormed b) (L : List Entry) where
-  domains-empty-iff : (domains b L ≡ emptyStore (columnCount b)) ↔ Fails b (allowed b L)
-  unfolding domains
-  domains-empty-iff = fails-iff b p (allowed b L) (allowed-store b L)
-
-  domains-consistent-or-empty : ConsistentStore b (domains b L) ⊎ (domains b L ≡ emptyStore (columnCount b))
-  unfolding domains
-  domains-consistent-or-empty = closed-or-empty b p (allowed b L) (allowed-store b L)
-
-  dead-iff : (statusOf b (domains b L) ≡ 0) ↔ Fails b (allowed b L)
-  dead-iff = (λ e. to (status-0-e b (domains b L) e) domains-consistent-or-empty, from)
-    where
-      to : allFilled (columnCount b) (domains b L) ≡ false
-          → ConsistentStore b (domains b L) ⊎ (domains b L ≡ emptyStore (columnCount b)) → Fails b (allowed b L)
-      to e (inl h) = absurd (true≢false (sym (filled-i (columnCount b) (domains b L) (domains-store b L) (h .filled)) ∙ e))
-      to e (inr q) = domains-empty-iff .0 q
-
-      from : Fails b (allowed b L) → statusOf b (domains b L) ≡ 0
-      from f =
-          status-0-i b (domains b L)
-          (ap (allFilled (columnCount b)) (domains-empty-iff .1 f) ∙ empty-unfilled (columnCount b) (p .some-column))
-
-  stays-in-domains : (c v : ℕ) → (has (domains b L) c v ≡ true) ↔ Stays b (allowed b L) c v
-  unfolding domains
-  stays-in-domains c v = stays-iff b p (allowed b L) (allowed-store b L) c v
-
-  -- demand 2, of any trail
-  pub demand2 : Demand2 b L
-  demand2 =
-      record {
-        stays = stays-in-domains;
-        dead = dead-iff;
-        empty = domains-empty-iff;
-        found = found-iff b (domains b L) (domains-store b L);
-        not-found = none-iff b (domains b L) (domains-store b L);
-        dead-finish = λ f.
-            none-iff b (domains b L) (domains-store b L) .1
-            (record {
-              none = λ x g.
-                  empty-has (columnCount b) 0 (getD x 0 0)
-                  (subst (λ (D : List ℕ). has D 0 (getD x 0 0) ≡ true) (domains-empty-iff .1 f) (g .takes 0 (p .some-column)));
-            });
-        searched = search-first b p (domains b L) (domains-store b L) (domains-closed b L);
-      }
-
--- ---- equal allowed values
-pub same-domains : (b : Book) (L M : List Entry) → SameAllowed b L M → domains b L ≡ domains b M
-unfolding domains
-same-domains b L M h =
-    ap (closure b) (store-ext (columnCount b) (allowed b L) (allowed b M) (allowed-store b L) (allowed-store b M) (λ c v p q. h .at c v))
-
--- "equal counts": lists that allow the same are each narrower than the other
-pub same-narrower : (b : Book) (L M : List Entry) → SameAllowed b L M → Narrower b L M
-same-narrower b L M h = record { at = λ c v e. sym (h .at c v) ∙ e }
+use Rattle.model.proofs.Trails.{allowed-store, domains-store, domains-closed, domains-mono, narrowed-e}
+use Rattle.model.proofs.Refusals.{refusal-depth, refusal-finish, accepted-narrow, push-refused, push-narrow, push-finish}
 
 -- ---- answers
 -- an accepted finish, and any other order
@@ -159,10 +74,6 @@ answer-refused b L o = go (either (eqb (kind o) 4 && isAccepted b L o))
     go (inl p) = ap (λ (a : Answer). a .refused) (answer-finish b L o p) ∙ sym (eqb-true _ 0 (and-r (eqb (kind o) 4) _ p))
     go (inr q) = ap (λ (a : Answer). a .refused) (answer-other b L o q)
 
-accepted-finish : (b : Book) (L : List Entry) (o : List ℕ) → kind o ≡ 4 → (answer b L o) .refused ≡ 0 → answer b L o ≡ finishing b L
-accepted-finish b L o k r = answer-finish b L o (and-i (eq-eqb _ 4 k) (eq-eqb _ 0 (sym (answer-refused b L o) ∙ r)))
-
--- ---- bytes of answers
 bytes-0 : (a : Answer) → byte (answerBytes a) 0 ≡ a .refused
 unfolding answerBytes
 bytes-0 a = refl
@@ -174,6 +85,175 @@ bytes-1 a = refl
 bytes-4 : (a : Answer) → byte (answerBytes a) 4 ≡ a .done
 unfolding answerBytes
 bytes-4 a = refl
+
+-- ---- demand 1
+-- a refused order changes nothing
+refused-order : (b : Book) (L : List Entry) (o : List ℕ) → (refusal b L o ≡ 0 → ⊥) → ChangesNothing b L o
+unfolding answer
+refused-order b L o n =
+    let e : push b L o ≡ L = push-refused b L o n in
+    record { same-trail = e; shows = rw (ne-eqb (refusal b L o) 0 n, and-false (eqb (kind o) 4), e) }
+
+count-unrefused : (b : Book) (os : List (List ℕ)) (L : List Entry) → acceptedFrom b L os ≡ unrefused (answersFrom b L os)
+unfolding acceptedFrom answersFrom unrefused
+count-unrefused b [] L = refl
+count-unrefused b (o ∷ os) L =
+    ap₂ (λ (r n : ℕ). oneIf (eqb r 0) + n) (sym (answer-refused b L o)) (count-unrefused b os (push b L o))
+
+pub claim1 : Claim1
+claim1 b =
+    record {
+      refused = refused-order b;
+      by-depth = refusal-depth b;
+      byte-0 = λ L o. bytes-0 (answer b L o) ∙ answer-refused b L o;
+      counted = λ os. count-unrefused b os [];
+    }
+
+-- ---- demand 2
+-- no column of the empty store is filled
+empty-unfilled : (C : ℕ) → 0 < C → allFilled C (emptyStore C) ≡ false
+empty-unfilled C pos = go (either (allFilled C (emptyStore C)))
+  where
+    go : (allFilled C (emptyStore C) ≡ true) ⊎ (allFilled C (emptyStore C) ≡ false) → allFilled C (emptyStore C) ≡ false
+    go (inl e) = let r = filled-e C (emptyStore C) e 0 pos in absurd (empty-has C 0 (r .0) (r .1))
+    go (inr e) = e
+
+-- status 0: some column is empty
+status-0-e : (b : Book) (D : List ℕ) → statusOf b D ≡ 0 → allFilled (columnCount b) D ≡ false
+unfolding statusOf
+status-0-e b D e = go (either (allFilled (columnCount b) D)) (either (assigned b D))
+  where
+    go : (allFilled (columnCount b) D ≡ true) ⊎ (allFilled (columnCount b) D ≡ false) → (assigned b D ≡ true) ⊎ (assigned b D ≡ false)
+        → allFilled (columnCount b) D ≡ false
+    go (inr q) r = q
+    go (inl p) (inl r) = let z : _≡_ {A = ℕ} 2 0 = rw (p, r) at e in absurd (omega arith)
+    go (inl p) (inr r) = let z : _≡_ {A = ℕ} 1 0 = rw (p, r) at e in absurd (omega arith)
+
+status-0-i : (b : Book) (D : List ℕ) → allFilled (columnCount b) D ≡ false → statusOf b D ≡ 0
+unfolding statusOf
+status-0-i b D e = rw e
+
+module _ (b : Book) (p : WellFormed b) (L : List Entry) where
+  domains-empty-iff : (domains b L ≡ emptyStore (columnCount b)) ↔ Fails b (allowed b L)
+  unfolding domains
+  domains-empty-iff = fails-iff b p (allowed b L) (allowed-store b L)
+
+  domains-consistent-or-empty : ConsistentStore b (domains b L) ⊎ (domains b L ≡ emptyStore (columnCount b))
+  unfolding domains
+  domains-consistent-or-empty = closed-or-empty b p (allowed b L) (allowed-store b L)
+
+  failed-status-iff : (statusOf b (domains b L) ≡ 0) ↔ Fails b (allowed b L)
+  failed-status-iff = (λ e. to (status-0-e b (domains b L) e) domains-consistent-or-empty, from)
+    where
+      to : allFilled (columnCount b) (domains b L) ≡ false
+          → ConsistentStore b (domains b L) ⊎ (domains b L ≡ emptyStore (columnCount b)) → Fails b (allowed b L)
+      to e (inl h) = absurd (true≢false (sym (filled-i (columnCount b) (domains b L) (domains-store b L) (h .filled)) ∙ e))
+      to e (inr q) = domains-empty-iff .0 q
+
+      from : Fails b (allowed b L) → statusOf b (domains b L) ≡ 0
+      from f =
+          status-0-i b (domains b L)
+          (ap (allFilled (columnCount b)) (domains-empty-iff .1 f) ∙ empty-unfilled (columnCount b) (p .some-column))
+
+  stays-in-domains : (c v : ℕ) → (has (domains b L) c v ≡ true) ↔ Stays b (allowed b L) c v
+  unfolding domains
+  stays-in-domains c v = stays-iff b p (allowed b L) (allowed-store b L) c v
+
+  demand2 : Demand2 b L
+  demand2 =
+      record {
+        stays = stays-in-domains;
+        failed = failed-status-iff;
+        empty = domains-empty-iff;
+        found = found-iff b (domains b L) (domains-store b L);
+        not-found = none-iff b (domains b L) (domains-store b L);
+        failed-finish = λ f.
+            none-iff b (domains b L) (domains-store b L) .1
+            (record {
+              none = λ x g.
+                  empty-has (columnCount b) 0 (getD x 0 0)
+                  (subst (λ (D : List ℕ). has D 0 (getD x 0 0) ≡ true) (domains-empty-iff .1 f) (g .takes 0 (p .some-column)));
+            });
+        searched = search-first b p (domains b L) (domains-store b L) (domains-closed b L);
+      }
+
+-- ---- demand 2 at every answer
+showing-state : (b : Book) → WellFormed b → (L : List Entry) (r : ℕ) → ShowsState b L (showing b L r)
+unfolding showing
+showing-state b p L r = record { stays = stays-in-domains b p L; failed = failed-status-iff b p L; outcome = refl }
+
+finishing-finish : (b : Book) → WellFormed b → (L : List Entry) → ShowsFinish b L (finishing b L)
+unfolding finishing
+finishing-finish b p L =
+    record {
+      found = (
+        λ e. to e (opt (firstSolution b D)),
+        λ s. let y = has-first b D d (s .0) (s .1) in ap outcomeOf (found-iff b D d (y .0) .1 (y .1)),
+      );
+      first = λ x f. ap (solutionMasks (columnCount b)) (found-iff b D d x .1 f);
+      not-found = (λ e. none-iff b D d .0 (no e (opt (firstSolution b D))), λ n. ap outcomeOf (none-iff b D d .1 n));
+      zeros = λ n. ap (solutionMasks (columnCount b)) (none-iff b D d .1 n);
+      failed = failed-status-iff b p L;
+    }
+  where
+    D : List ℕ
+    D = domains b L
+
+    d : IsStore (columnCount b) D
+    d = domains-store b L
+
+    to : outcomeOf (firstSolution b D) ≡ 1 → (firstSolution b D ≡ none) ⊎ ((x : List ℕ) × (firstSolution b D ≡ some x))
+        → (x : List ℕ) × Solution b D x
+    to e (inl n) = let z : _≡_ {A = ℕ} 2 1 = rw n at e in absurd (omega arith)
+    to e (inr q) = (q .0, found-iff b D d (q .0) .0 (q .1) .solution)
+
+    no : outcomeOf (firstSolution b D) ≡ 2 → (firstSolution b D ≡ none) ⊎ ((x : List ℕ) × (firstSolution b D ≡ some x)) → firstSolution b D ≡ none
+    no e (inl n) = n
+    no e (inr q) = let z : _≡_ {A = ℕ} 1 2 = rw (q .1) at e in absurd (omega arith)
+
+-- a narrow to mask 0 allows no value in its column
+mask-0-fails : (b : Book) (L : List Entry) (o : List ℕ) → kind o ≡ 1 → refusal b L o ≡ 0 → mask o ≡ 0 → Fails b (allowed b (push b L o))
+mask-0-fails b L o k e z =
+    record {
+      none = λ B h w.
+          let r = h .filled (argument o) (accepted-narrow b L o k e) in
+          gone (r .0) (subst (λ (M : List Entry). has (allowed b M) (argument o) (r .0) ≡ true) (push-narrow b L o k e) (w .at (argument o) (r .0) (r .1)));
+    }
+  where
+    gone : (v : ℕ) → has (allowed b (L ++ (narrowed (argument o) (mask o) ∷ []))) (argument o) v ≡ true → ⊥
+    gone v h =
+        false≢true
+        (sym (bit-of-zero v)
+        ∙ ap (bit v) (sym z)
+        ∙ sym (ap (λ (t : Bool). not t || bit v (mask o)) (eq-eqb (argument o) (argument o) refl))
+        ∙ narrowed-e b L (argument o) (mask o) (argument o) v h .1)
+
+every-answer : (b : Book) → WellFormed b → EveryAnswer b
+every-answer b p =
+    record {
+      opened = showing-state b p [] 0;
+      ordered = λ L o n. ordered L o n (either (eqb (kind o) 4 && isAccepted b L o));
+      finished = λ L o k e. rw (answer-finish b L o (and-i (eq-eqb _ 4 k) (eq-eqb _ 0 e))) (finishing-finish b p L);
+      mask-0 = mask-0-fails b;
+    }
+  where
+    ordered : (L : List Entry) (o : List ℕ) → (kind o ≡ 4 → refusal b L o ≡ 0 → ⊥)
+        → ((eqb (kind o) 4 && isAccepted b L o) ≡ true) ⊎ ((eqb (kind o) 4 && isAccepted b L o) ≡ false) → ShowsState b (push b L o) (answer b L o)
+    ordered L o n (inl t) = absurd (n (eqb-true _ 4 (and-l _ _ t)) (eqb-true _ 0 (and-r (eqb (kind o) 4) _ t)))
+    ordered L o n (inr t) = rw (answer-other b L o t) (showing-state b p (push b L o) (refusal b L o))
+
+pub claim2 : Claim2
+claim2 b p = (demand2 b p, every-answer b p)
+
+-- ---- equal allowed values
+pub same-domains : (b : Book) (L M : List Entry) → SameAllowed b L M → domains b L ≡ domains b M
+unfolding domains
+same-domains b L M h =
+    ap (closure b) (store-ext (columnCount b) (allowed b L) (allowed b M) (allowed-store b L) (allowed-store b M) (λ c v p q. h .at c v))
+
+-- "equal counts": lists that allow the same are each narrower than the other
+pub same-narrower : (b : Book) (L M : List Entry) → SameAllowed b L M → Narrower b L M
+same-narrower b L M h = record { at = λ c v e. sym (h .at c v) ∙ e }
 
 -- two finishes over equal domains
 finishing-same : (b : Book) (L M : List Entry) → domains b L ≡ domains b M → SameFinish (answerBytes (finishing b L)) (answerBytes (finishing b M))
@@ -266,18 +346,19 @@ module _ (Session : Type 0) (current : Session → List ℕ) (Holds : Book → L
 
         -- an accepted finish is answered by `finishing`
         finished : (N : List Entry) (u u′ : Session) (o e : List ℕ) → Holds b N u → kind o ≡ 4
-            → Stepped Session current Holds b u o u′ e → byte e 0 ≡ 0 → e ≡ answerBytes (finishing b N)
+            → Stepped Session current Holds b u o u′ e → refusal b N o ≡ 0 → e ≡ answerBytes (finishing b N)
         finished N u u′ o e h k g z =
-            let x : e ≡ answerBytes (answer b N o) = g .says N h in
-            x
-            ∙ ap answerBytes
-            (accepted-finish b N o k (sym (bytes-0 (answer b N o)) ∙ ap (λ (l : List ℕ). byte l 0) (sym x) ∙ z))
+            g .says N h ∙ ap answerBytes (answer-finish b N o (and-i (eq-eqb _ 4 k) (eq-eqb _ 0 z)))
 
+        -- a finish that one session accepts, the other does too: its refusal goes by its bytes
         finish : SameAllowed b L M → (o : List ℕ) → kind o ≡ 4 → (s′ t′ : Session) (a′ d′ : List ℕ)
             → Stepped Session current Holds b s o s′ a′ → Stepped Session current Holds b t o t′ d′
-            → byte a′ 0 ≡ 0 → byte d′ 0 ≡ 0 → SameFinish a′ d′
-        finish h o k s′ t′ a′ d′ m n u w =
-            rw (finished L s s′ o a′ hs k m u, finished M t t′ o d′ ht k n w) (finishing-same b L M (same-domains b L M h))
+            → byte a′ 0 ≡ 0 → SameFinish a′ d′
+        finish h o k s′ t′ a′ d′ m n u =
+            let x : refusal b L o ≡ 0 =
+            sym (claim1 b .byte-0 L o) ∙ ap (λ (l : List ℕ). byte l 0) (sym (m .says L hs)) ∙ u in
+            let y : refusal b M o ≡ 0 = refusal-finish b M o k ∙ sym (refusal-finish b L o k) ∙ x in
+            rw (finished L s s′ o a′ hs k m x, finished M t t′ o d′ ht k n y) (finishing-same b L M (same-domains b L M h))
 
         inner : Narrower b L M → Within (current s) (current t)
         inner w = within-trans (current-to b L s hs) (within-trans (domains-mono b L M w) (current-from b M t ht))
@@ -294,7 +375,6 @@ module _ (Session : Type 0) (current : Session → List ℕ) (Holds : Book → L
               first-wider b (domains b L) (domains b M) (y .0) (z .0) (domains-mono b L M w) (y .1) (z .1),
             )
 
-    -- demand 3, of any two runs
-    pub demand3 : (b : Book) (xs ys : List (List ℕ)) (s t : Session) (a d : List ℕ)
-        → Run Session current Holds b xs s a → Run Session current Holds b ys t d → Demand3 Session current Holds b xs ys s t a d
-    demand3 b xs ys s t a d p q = gives-demand3 b xs ys s t a d (run-gives b xs s a p) (run-gives b ys t d q)
+pub claim3 : Claim3
+claim3 Session current Holds reads b xs ys s t a d p q =
+    gives-demand3 Session current Holds reads b xs ys s t a d (run-gives Session current Holds b xs s a p) (run-gives Session current Holds b ys t d q)

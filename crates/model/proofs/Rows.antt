@@ -65,7 +65,7 @@ support-iff D s i v = (to, from)
   where
     to : Support D s i v → ValidSupport D s i v
     to k =
-        let r = at-place (k .row) (s .rows) (allows-e s (k .row) (k .allowed)) in
+        let r = at-place (k .row) (s .rows) (allows-e s (k .row) (k .sheet-allows)) in
         record {
           row = r .0;
           is-valid = and-i (lt-ltb (r .0) (length (s .rows)) (r .1)) (rw (r .2) (valid-i D (s .columns) (k .row) (k .valid)));
@@ -77,7 +77,7 @@ support-iff D s i v = (to, from)
         let l = ltb-true (k .row) (length (s .rows)) (and-l (ltb (k .row) (length (s .rows))) _ (k .is-valid)) in
         record {
           row = getD (s .rows) (k .row) [];
-          allowed = allows-i s _ (in-list (s .rows) (k .row) l);
+          sheet-allows = allows-i s _ (in-list (s .rows) (k .row) l);
           valid = valid-e D (s .columns) _ (and-r (ltb (k .row) (length (s .rows))) _ (k .is-valid));
           value = k .value;
         }

@@ -77,7 +77,7 @@ module _ (b : Book) (p : WellFormed b) (D : List ℕ) (d : IsStore (columnCount 
           (pick-e D (s .columns) i (getD (k .row) i 0) (k .valid .each i (rw (length-pick D (s .columns)) j)) .1) (takes (getD (s .columns) i 0) (q .inside i j))
           ∙ sym (getD-pick x (s .columns) i j))
           in
-          ap (allows s) (sym same) ∙ k .allowed
+          ap (allows s) (sym same) ∙ k .sheet-allows
 
       least : (y : List ℕ) → Solution b D y → (map valueOf D ≡ y) ⊎ Lower (map valueOf D) y
       least y g =

@@ -108,7 +108,7 @@ solution-closure b p A a x f =
           support = λ s m i l v e.
               record {
                 row = pick x (s .columns);
-                allowed = f .forms s m;
+                sheet-allows = f .forms s m;
                 valid =
                     record {
                       size = length-pick x (s .columns) ∙ sym (length-pick S (s .columns));

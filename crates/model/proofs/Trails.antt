@@ -144,7 +144,7 @@ domains-checkpoint b L = ap (closure b) (allowed-checkpoint b L)
 
 -- ---- a narrow
 module _ (b : Book) (L : List Entry) (c m : ℕ) where
-  narrowed-e : (k v : ℕ) → has (allowed b (L ++ (narrowed c m ∷ []))) k v ≡ true
+  pub narrowed-e : (k v : ℕ) → has (allowed b (L ++ (narrowed c m ∷ []))) k v ≡ true
       → (has (allowed b L) k v ≡ true) × ((not (eqb c k) || bit v m) ≡ true)
   unfolding allowed
   narrowed-e k v e =

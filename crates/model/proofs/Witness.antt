@@ -1,12 +1,136 @@
--- Demand 3 speaks of something: with the trail itself as the session, every list of orders over every book has a run. Assumes nothing.
-use mathlib.Core.Path.{_≡_, refl, ap}
+-- The statements speak of something: the paper's books are well-formed, its opening state holds, and with the trail itself as the session
+-- every list of orders over every book has a run. Assumes nothing.
+use mathlib.Core.Path.{_≡_, refl, sym, ap, _∙_}
+use mathlib.Core.Bool.{Bool, true, _&&_}
+use mathlib.Core.Logic.{_↔_}
 use mathlib.Core.List.{List, [], _∷_}
-use Prim.Native.Nat.{ℕ}
-use Rattle.model.specs.Books.{Book}
+use Prim.Native.Nat.{ℕ, zero, suc, _<_}
+use native.Mathlib.Omega.{arith}
+use lib.Dec.{eqb, ltb, leb}
+use lib.ListN.{length, getD}
+use borrow.Author.Tests.{eqb-true, ltb-true, leb-true}
+use Rattle.model.specs.Tests.{allBelow, allIn}
+use Rattle.model.specs.Books.{Sheet, Book, columnCount, WellFormedSheet, WellFormed}
 use Rattle.model.specs.Orders.{Entry, push, trailFrom, trail, domains}
 use Rattle.model.specs.Answers.{Answer, answer, opening, lastFrom, lastAnswer, answerBytes}
+use Rattle.model.specs.States.{valid, validRow, validWord, Indexed, ofSheet, sheetAt}
 use Rattle.model.specs.Demands.{HoldsDomains, Stepped, Chain, Run}
+use Rattle.model.specs.Acceptance.{H, H7, H8, H9, H2, H1, openingArrays, RowFacts, BooksWellFormed}
+use Rattle.model.proofs.Acceptance.{computing}
+use Rattle.model.proofs.Tests.{and-l, and-r, allBelow-e, allIn-e}
 
+-- ---- well-formed books, by a test
+sheetTest : List ℕ → Sheet → Bool
+sheetTest counts s =
+    ltb 0 (length (s .columns))
+    && (leb (length (s .columns)) 4
+    && (allBelow (length (s .columns)) (λ j. allBelow j (λ i. ltb (getD (s .columns) i 0) (getD (s .columns) j 0)))
+    && (allBelow (length (s .columns)) (λ i. ltb (getD (s .columns) i 0) (length counts))
+    && (leb (length (s .rows)) 508
+    && (allBelow (length (s .rows)) (λ r. eqb (length (getD (s .rows) r [])) (length (s .columns)))
+    && allBelow (length (s .rows)) (λ r. allBelow (length (s .columns)) (λ i. ltb (getD (getD (s .rows) r []) i 0) (getD counts (getD (s .columns) i 0) 0))))))))
+
+sheet-well-formed : (counts : List ℕ) (s : Sheet) → sheetTest counts s ≡ true → WellFormedSheet counts s
+unfolding sheetTest
+sheet-well-formed counts s e1 =
+    let e2 = and-r (ltb 0 (length (s .columns))) _ e1 in
+    let e3 = and-r (leb (length (s .columns)) 4) _ e2 in
+    let rises : allBelow (length (s .columns)) (λ j. allBelow j (λ i. ltb (getD (s .columns) i 0) (getD (s .columns) j 0))) ≡ true = and-l _ _ e3 in
+    let e4 = and-r (allBelow (length (s .columns)) (λ j. allBelow j (λ i. ltb (getD (s .columns) i 0) (getD (s .columns) j 0)))) _ e3 in
+    let e5 = and-r (allBelow (length (s .columns)) (λ i. ltb (getD (s .columns) i 0) (length counts))) _ e4 in
+    let e6 = and-r (leb (length (s .rows)) 508) _ e5 in
+    let e7 = and-r (allBelow (length (s .rows)) (λ r. eqb (length (getD (s .rows) r [])) (length (s .columns)))) _ e6 in
+    record {
+      some-column = ltb-true _ _ (and-l _ _ e1);
+      few-columns = leb-true _ _ (and-l _ _ e2);
+      rising = λ i j l m. ltb-true _ _ (allBelow-e j (λ i. ltb (getD (s .columns) i 0) (getD (s .columns) j 0)) (allBelow-e _ (λ j. allBelow j (λ i. ltb (getD (s .columns) i 0) (getD (s .columns) j 0))) rises j m) i l);
+      inside = λ i l. ltb-true _ _ (allBelow-e _ (λ i. ltb (getD (s .columns) i 0) (length counts)) (and-l _ _ e4) i l);
+      few-rows = leb-true _ _ (and-l _ _ e5);
+      row-size = λ r l. eqb-true _ _ (allBelow-e _ (λ r. eqb (length (getD (s .rows) r [])) (length (s .columns))) (and-l _ _ e6) r l);
+      row-value = λ r i l m. ltb-true _ _ (allBelow-e _ (λ i. ltb (getD (getD (s .rows) r []) i 0) (getD counts (getD (s .columns) i 0) 0)) (allBelow-e _ (λ r. allBelow (length (s .columns)) (λ i. ltb (getD (getD (s .rows) r []) i 0) (getD counts (getD (s .columns) i 0) 0))) e7 r l) i m);
+    }
+
+bookTest : Book → Bool
+bookTest b =
+    ltb 0 (columnCount b)
+    && (leb (columnCount b) 16
+    && (leb (length (b .sheets)) 8
+    && (allBelow (columnCount b) (λ c. ltb 0 (getD (b .counts) c 0))
+    && (allBelow (columnCount b) (λ c. leb (getD (b .counts) c 0) 32) && allIn (b .sheets) (sheetTest (b .counts))))))
+
+book-well-formed : (b : Book) → bookTest b ≡ true → WellFormed b
+unfolding bookTest
+book-well-formed b e1 =
+    let e2 = and-r (ltb 0 (columnCount b)) _ e1 in
+    let e3 = and-r (leb (columnCount b) 16) _ e2 in
+    let e4 = and-r (leb (length (b .sheets)) 8) _ e3 in
+    let e5 = and-r (allBelow (columnCount b) (λ c. ltb 0 (getD (b .counts) c 0))) _ e4 in
+    let e6 = and-r (allBelow (columnCount b) (λ c. leb (getD (b .counts) c 0) 32)) _ e5 in
+    record {
+      some-column = ltb-true _ _ (and-l _ _ e1);
+      few-columns = leb-true _ _ (and-l _ _ e2);
+      few-sheets = leb-true _ _ (and-l _ _ e3);
+      some-value = λ c l. ltb-true _ _ (allBelow-e _ (λ c. ltb 0 (getD (b .counts) c 0)) (and-l _ _ e4) c l);
+      few-values = λ c l. leb-true _ _ (allBelow-e _ (λ c. leb (getD (b .counts) c 0) 32) (and-l _ _ e5) c l);
+      sheet = λ s m. sheet-well-formed (b .counts) s (allIn-e (b .sheets) (sheetTest (b .counts)) e6 s m);
+    }
+
+pub booksWellFormed : BooksWellFormed
+unfolding bookTest sheetTest allBelow allIn
+booksWellFormed =
+    record {
+      h = book-well-formed H refl;
+      h1 = book-well-formed H1 refl;
+      h2 = book-well-formed H2 refl;
+      h7 = book-well-formed H7 refl;
+      h8 = book-well-formed H8 refl;
+      h9 = book-well-formed H9 refl;
+    }
+
+-- ---- the opening state of H
+-- an index that lists the words in order, of which the first alone is not zero
+first-indexed : (index word : ℕ → ℕ) → allBelow 8 (λ i. eqb (index i) i) ≡ true → 0 < word 0 → allBelow 7 (λ i. eqb (word (suc i)) 0) ≡ true
+    → Indexed index 1 word
+first-indexed index word e p z =
+    record {
+      few = omega arith;
+      each = λ i l. omega (arith, own i l);
+      once = λ i j l m q. sym (own i l) ∙ q ∙ own j m;
+      limit = λ i l. rw (own i l) (at i l);
+    }
+  where
+    own : (i : ℕ) → i < 8 → index i ≡ i
+    own i l = eqb-true _ _ (allBelow-e 8 (λ i. eqb (index i) i) e i l)
+
+    at : (i : ℕ) → i < 8 → (i < 1) ↔ (0 < word i)
+    at zero l = (λ h. p, λ h. omega arith)
+    at (suc i) l =
+        let q : word (suc i) ≡ 0 = eqb-true _ _ (allBelow-e 7 (λ i. eqb (word (suc i)) 0) z i (omega arith)) in
+        (λ h. absurd (omega arith), λ h. absurd (omega arith))
+
+pub rowFacts : RowFacts
+unfolding computing valid validRow validWord
+rowFacts =
+    record {
+      opening =
+          record {
+            domain = λ c. refl;
+            rows = λ s w l m.
+                eqb-true _ _
+                (allBelow-e 8 (λ w. eqb (ofSheet (openingArrays .words) s w) (validWord (domains H []) (sheetAt H s) w))
+                (allBelow-e 2 (λ s. allBelow 8 (λ w. eqb (ofSheet (openingArrays .words) s w) (validWord (domains H []) (sheetAt H s) w))) refl s l) w m);
+            indexed = indexed;
+          };
+      narrowed-0 = refl;
+      narrowed-1 = refl;
+    }
+  where
+    indexed : (s : ℕ) → s < 2 → Indexed (ofSheet (openingArrays .index) s) (getD (openingArrays .limits) s 0) (ofSheet (openingArrays .words) s)
+    indexed zero l = first-indexed (ofSheet (openingArrays .index) 0) (ofSheet (openingArrays .words) 0) refl (omega arith) refl
+    indexed (suc zero) l = first-indexed (ofSheet (openingArrays .index) 1) (ofSheet (openingArrays .words) 1) refl (omega arith) refl
+    indexed (suc (suc s)) l = absurd (omega arith)
+
+-- ---- runs
 pub record TrailSession : Type 0 where
   pub book : Book
   pub entries : List Entry

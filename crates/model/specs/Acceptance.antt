@@ -1,20 +1,23 @@
 -- The examples of document 01 that the customer accepts by: harbour book H, the ten facts K1 to K10, the run of seven lines; and beside
--- them what the search finds, the refusals of orders, and what demand 3 leaves free. Their proofs are `tenFacts`, `sevenLines`,
--- `searchFacts`, `refusalFacts` and `mayDiffer` of proofs/Acceptance.antt.
+-- them what the search finds, refusals, bytes, valid rows, and what demand 3 leaves free. Each record is proved in proofs/Acceptance.antt under
+-- its name with a small letter; `BooksWellFormed` and `RowFacts` in proofs/Witness.antt.
 use mathlib.Core.Path.{_≡_}
 use mathlib.Core.Option.{none, some}
 use mathlib.Core.List.{List, [], _∷_}
 use Prim.Native.Nat.{ℕ, zero, suc}
-use Rattle.model.specs.Books.{Sheet, Book}
+use lib.ListN.{replicate}
+use Rattle.model.specs.Books.{Sheet, Book, WellFormed}
 use Rattle.model.specs.Search.{searchSolution}
 use Rattle.model.specs.Orders.{byte, Entry, checkpoint, refusal, trail, domains}
 use Rattle.model.specs.Answers.{Answer, answers, lastAnswer, acceptedCount, answerBytes}
+use Rattle.model.specs.States.{validWord, sheetAt, Arrays, StateHolds}
 use Rattle.model.specs.Demands.{SameAllowed}
 
 abbrev pub sheetOf : List ℕ → List (List ℕ) → Sheet
 sheetOf cs rs = record { columns = cs; rows = rs }
 
--- "three columns: 0 width with V 3, 1 motor with V 2, 2 board with V 2. Sheet 0 (width, motor): 00 10 11 21. Sheet 1 (motor, board): 00 01 11."
+-- "H has three columns: 0 width with V 3, 1 motor with V 2, 2 board with V 2. … Sheet 0 (width, motor): 00 10 11 21. Sheet 1 (motor,
+-- board): 00 01 11."
 abbrev pub H : Book
 H = record {
   counts = 3 ∷ 2 ∷ 2 ∷ [];
@@ -55,7 +58,7 @@ finish = 4 ∷ 0 ∷ 0 ∷ 0 ∷ 0 ∷ 0 ∷ 0 ∷ 0 ∷ []
 
 -- an answer in the order of a printed line: "refusal, status, depth, done, byte 3, the C domains"
 abbrev pub line : ℕ → ℕ → ℕ → ℕ → ℕ → List ℕ → Answer
-line r s k n f B = record { refused = r; status = s; marks = k; outcome = f; done = n; shown = B }
+line r s k n f B = record { refused = r; status = s; depth = k; outcome = f; done = n; shown = B }
 
 pub record TenFacts : Type 0 where
   -- "K1 opening: domains 7 3 3, done 0."
@@ -80,11 +83,11 @@ pub record TenFacts : Type 0 where
   pub k10 : lastAnswer H (narrow 0 8 ∷ []) ≡ line 22 1 0 0 0 (7 ∷ 3 ∷ 3 ∷ [])
 
 -- "On H with mark, narrow board 1, finish, back 1, back 1, narrow width 4"
-abbrev pub sevenOrders : List (List ℕ)
-sevenOrders = mark ∷ narrow 2 1 ∷ finish ∷ back 1 ∷ back 1 ∷ narrow 0 4 ∷ []
+abbrev pub exampleOrders : List (List ℕ)
+exampleOrders = mark ∷ narrow 2 1 ∷ finish ∷ back 1 ∷ back 1 ∷ narrow 0 4 ∷ []
 
 pub record SevenLines : Type 0 where
-  pub lines : answers H sevenOrders
+  pub lines : answers H exampleOrders
       ≡ line 0 1 0 0 0 (7 ∷ 3 ∷ 3 ∷ [])
       ∷ line 0 1 1 0 0 (7 ∷ 3 ∷ 3 ∷ [])
       ∷ line 0 1 1 3 0 (3 ∷ 1 ∷ 1 ∷ [])
@@ -94,7 +97,7 @@ pub record SevenLines : Type 0 where
       ∷ line 0 2 0 3 0 (4 ∷ 2 ∷ 2 ∷ [])
       ∷ []
   -- "accepted 5"
-  pub accepted : acceptedCount H sevenOrders ≡ 5
+  pub accepted : acceptedCount H exampleOrders ≡ 5
 
 -- ---- the search
 -- two columns of 2 values and the sheet 01 10
@@ -128,8 +131,10 @@ pub record RefusalFacts : Type 0 where
   pub narrow-all : refusal H [] (order 1 0 0 0 7 0) ≡ 0
   -- "mask 0 is accepted and makes the session dead", its finish "says none", and a back past it brings it back to life
   pub narrow-none : lastAnswer H (narrow 1 0 ∷ []) ≡ line 0 0 0 0 0 (0 ∷ 0 ∷ 0 ∷ [])
-  pub dead-finish : lastAnswer H (narrow 1 0 ∷ finish ∷ []) ≡ line 0 0 0 0 2 (0 ∷ 0 ∷ 0 ∷ [])
-  pub dead-back : lastAnswer H (mark ∷ narrow 1 0 ∷ back 1 ∷ []) ≡ line 0 1 0 0 0 (7 ∷ 3 ∷ 3 ∷ [])
+  pub failed-finish : lastAnswer H (narrow 1 0 ∷ finish ∷ []) ≡ line 0 0 0 0 2 (0 ∷ 0 ∷ 0 ∷ [])
+  pub failed-back : lastAnswer H (mark ∷ narrow 1 0 ∷ back 1 ∷ []) ≡ line 0 1 0 0 0 (7 ∷ 3 ∷ 3 ∷ [])
+  -- "a dead session gives the same refusals as an open one"
+  pub failed-refusal : lastAnswer H (narrow 1 0 ∷ back 1 ∷ []) ≡ line 24 0 0 0 0 (0 ∷ 0 ∷ 0 ∷ [])
   -- mark: 25, then 23; "mark 16 is accepted, mark 17 refused"
   pub mark-argument : refusal H (checkpoints 16) (order 2 1 0 0 0 0) ≡ 25
   pub mark-last-byte : refusal H (checkpoints 16) (order 2 0 0 0 0 1) ≡ 25
@@ -149,6 +154,44 @@ pub record RefusalFacts : Type 0 where
   -- "Other kinds are refused with 20, before the rest"
   pub kind-0 : refusal H [] (order 0 3 1 1 255 255) ≡ 20
   pub kind-5 : refusal H [] (order 5 3 1 1 255 255) ≡ 20
+
+-- ---- bytes: "fields of several bytes have the lowest byte first"
+-- one column of 32 values, no sheet
+abbrev pub H1 : Book
+H1 = record { counts = 32 ∷ []; sheets = [] }
+
+pub record ByteFacts : Type 0 where
+  -- a mark, and a narrow whose mask has the bytes 1 2 3 4: so has the domain shown
+  pub narrow-bytes : answerBytes (lastAnswer H1 (mark ∷ (1 ∷ 0 ∷ 0 ∷ 0 ∷ 1 ∷ 2 ∷ 3 ∷ 4 ∷ []) ∷ []))
+      ≡ 0 ∷ 1 ∷ 1 ∷ 0 ∷ 0 ∷ 0 ∷ 0 ∷ 0 ∷ 1 ∷ 2 ∷ 3 ∷ 4 ∷ replicate 60 0
+  -- answer 3 of the run of seven lines
+  pub finish-bytes : answerBytes (lastAnswer H (mark ∷ narrow 2 1 ∷ finish ∷ []))
+      ≡ 0 ∷ 1 ∷ 1 ∷ 1 ∷ 3 ∷ 0 ∷ 0 ∷ 0 ∷ 1 ∷ 0 ∷ 0 ∷ 0 ∷ 1 ∷ 0 ∷ 0 ∷ 0 ∷ 1 ∷ 0 ∷ 0 ∷ 0 ∷ replicate 52 0
+
+-- ---- valid rows
+-- the state of H at its opening: rows 0 to 3 of sheet 0, rows 0 to 2 of sheet 1
+abbrev pub openingArrays : Arrays
+openingArrays = record {
+  doms = 7 ∷ 3 ∷ 3 ∷ [];
+  words = 15 ∷ 0 ∷ 0 ∷ 0 ∷ 0 ∷ 0 ∷ 0 ∷ 0 ∷ 7 ∷ 0 ∷ 0 ∷ 0 ∷ 0 ∷ 0 ∷ 0 ∷ 0 ∷ [];
+  index = 0 ∷ 1 ∷ 2 ∷ 3 ∷ 4 ∷ 5 ∷ 6 ∷ 7 ∷ 0 ∷ 1 ∷ 2 ∷ 3 ∷ 4 ∷ 5 ∷ 6 ∷ 7 ∷ [];
+  limits = 1 ∷ 1 ∷ [];
+}
+
+pub record RowFacts : Type 0 where
+  pub opening : StateHolds H [] openingArrays
+  -- K3: narrow board 1 leaves rows 00 and 10, and row 00
+  pub narrowed-0 : validWord (domains H (trail H (narrow 2 1 ∷ []))) (sheetAt H 0) 0 ≡ 3
+  pub narrowed-1 : validWord (domains H (trail H (narrow 2 1 ∷ []))) (sheetAt H 1) 0 ≡ 1
+
+-- ---- the books of this page are well-formed
+pub record BooksWellFormed : Type 0 where
+  pub h : WellFormed H
+  pub h1 : WellFormed H1
+  pub h2 : WellFormed H2
+  pub h7 : WellFormed H7
+  pub h8 : WellFormed H8
+  pub h9 : WellFormed H9
 
 -- "Depth and byte 0 may differ between the lists": a mark, or an order of an unknown kind, after the opening
 abbrev pub unknown : List ℕ

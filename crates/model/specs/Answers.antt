@@ -21,7 +21,8 @@ assigned b D = allBelow (columnCount b) (λ c. eqb (size (getD D c 0)) 1)
 unfoldable pub statusOf : Book → List ℕ → ℕ
 statusOf b D = cond (allFilled (columnCount b) D) (cond (assigned b D) 2 1) 0
 
--- a sheet is subsumed (document 01: done) when "at most one column of s holds more than one value"
+-- a sheet is subsumed when "at most one column of s holds more than one value". Document 01's done asks besides that "the session isn't
+-- dead": see `doneOf`
 unfoldable pub subsumed : List ℕ → Sheet → Bool
 subsumed D s = leb (count (length (s .columns)) (λ i. ltb 1 (size (getD D (getD (s .columns) i 0) 0)))) 1
 
@@ -29,7 +30,7 @@ unfoldable pub subsumedBits : List ℕ → List Sheet → ℕ
 subsumedBits D [] = 0
 subsumedBits D (s ∷ ss) = oneIf (subsumed D s) + 2 * subsumedBits D ss
 
--- "The done byte has bit s for sheet s", and a dead session has none
+-- "The done byte has bit s for sheet s", and no bit where the session is dead
 unfoldable pub doneOf : Book → List ℕ → ℕ
 doneOf b D = cond (allFilled (columnCount b) D) (subsumedBits D (b .sheets)) 0
 
@@ -37,7 +38,7 @@ doneOf b D = cond (allFilled (columnCount b) D) (subsumedBits D (b .sheets)) 0
 pub record Answer : Type 0 where
   pub refused : ℕ
   pub status : ℕ
-  pub marks : ℕ
+  pub depth : ℕ
   pub outcome : ℕ
   pub done : ℕ
   pub shown : List ℕ
@@ -45,7 +46,7 @@ pub record Answer : Type 0 where
 -- the state that the trail L leaves, with a refusal or 0
 unfoldable pub showing : Book → List Entry → ℕ → Answer
 showing b L r =
-    record { refused = r; status = statusOf b (domains b L); marks = depth L; outcome = 0; done = doneOf b (domains b L); shown = domains b L }
+    record { refused = r; status = statusOf b (domains b L); depth = depth L; outcome = 0; done = doneOf b (domains b L); shown = domains b L }
 
 -- "for an accepted finish 1 found, 2 none"
 abbrev pub outcomeOf : Option (List ℕ) → ℕ
@@ -63,7 +64,7 @@ finishing b L =
     record {
       refused = 0;
       status = statusOf b (domains b L);
-      marks = depth L;
+      depth = depth L;
       outcome = outcomeOf (firstSolution b (domains b L));
       done = doneOf b (domains b L);
       shown = solutionMasks (columnCount b) (firstSolution b (domains b L));
@@ -118,4 +119,4 @@ domainBytes D (suc n) = domainBytes D n ++ wordBytes (getD D n 0)
 
 unfoldable pub answerBytes : Answer → List ℕ
 answerBytes a =
-    a .refused ∷ a .status ∷ a .marks ∷ a .outcome ∷ a .done ∷ 0 ∷ 0 ∷ 0 ∷ domainBytes (a .shown) 16
+    a .refused ∷ a .status ∷ a .depth ∷ a .outcome ∷ a .done ∷ 0 ∷ 0 ∷ 0 ∷ domainBytes (a .shown) 16

@@ -54,7 +54,7 @@ pub record WellFormed (b : Book) : Type 0 where
 -- its column's domain" (valid): `pick B (s .columns)` are the domains of the sheet's columns
 pub record Support (B : List ℕ) (s : Sheet) (i v : ℕ) : Type 0 where
   pub row : List ℕ
-  pub allowed : allows s row ≡ true
+  pub sheet-allows : allows s row ≡ true
   pub valid : Takes (pick B (s .columns)) row
   pub value : getD row i 0 ≡ v
 
@@ -83,7 +83,7 @@ carries [] t c v = false
 carries (k ∷ ks) [] c v = false
 carries (k ∷ ks) (x ∷ xs) c v = (eqb k c && eqb x v) || carries ks xs c v
 
--- in the store B, the sheet allows some choice with the value v in column c, unless c is not one of its columns
+-- c is not one of the sheet's columns, or in the store B the sheet allows some choice with the value v in column c
 unfoldable pub supportedIn : List ℕ → ℕ → ℕ → Sheet → Bool
 supportedIn B c v s =
     not (anyIn (s .columns) (eqb c)) || anyChoice (pick B (s .columns)) (λ t. allows s t && carries (s .columns) t c v)

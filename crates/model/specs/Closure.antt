@@ -1,5 +1,5 @@
--- The closure of a store under a support test: C columns, and `ok B c v` says that the store B supports the value v of column c.
--- The test is any that is monotone; `Books` puts a book's in.
+-- The closure of a store under any monotone support test: C columns, and `ok B c v` says that the store B supports the value v of column c.
+-- These are the general notions; `Books` says in document 01's words what they are for a book (`ConsistentStore`, `Stays`, `Fails`).
 use mathlib.Core.Path.{_≡_}
 use mathlib.Core.Bool.{Bool, true, false, cond, _&&_}
 use mathlib.Core.List.{List}
@@ -38,7 +38,7 @@ module _ (C : ℕ) (ok : List ℕ → ℕ → ℕ → Bool) where
   rounds zero A = A
   rounds (suc k) A = let S = strike A in elim (eqList S A) [ true ↦ A | false ↦ rounds k S ]
 
-  -- as many rounds as A has values: each but the last strikes one
+  -- as many rounds as A has values: each strikes at least one, or is the last
   unfoldable pub allRounds : List ℕ → List ℕ
   allRounds A = rounds (values C A) A
 

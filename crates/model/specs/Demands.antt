@@ -1,41 +1,81 @@
--- The statements of the demands, so far as they speak of the definitions. Their proofs are `refused-order`, `demand2` and `demand3` of
--- proofs/Demands.antt.
+-- The demands, so far as they speak of the definitions: what each says, and at the end the three claims, which `claim1`, `claim2` and `claim3`
+-- of proofs/Demands.antt prove. Quoted are the customer's demands and document 01.
 use mathlib.Core.Path.{_≡_}
 use mathlib.Core.Bool.{true}
 use mathlib.Core.Logic.{_⊎_, _↔_}
 use mathlib.Core.Option.{none, some}
-use mathlib.Core.List.{List, [], _∷_}
-use Prim.Native.Nat.{ℕ, _≤_}
+use mathlib.Core.List.{List, [], _∷_, map}
+use Prim.Native.Nat.{ℕ, _+_, _^_, _≤_}
+use lib.Dec.{eqb}
 use lib.ListN.{getD}
+use Rattle.model.specs.Tests.{oneIf, tab}
 use Rattle.model.specs.Stores.{has, Within, emptyStore}
 use Rattle.model.specs.Choices.{Lower}
-use Rattle.model.specs.Books.{Book, columnCount, Stays, Fails}
+use Rattle.model.specs.Books.{Book, columnCount, WellFormed, Stays, Fails}
 use Rattle.model.specs.Solutions.{Solution, FirstSolution, NoSolution, firstSolution}
 use Rattle.model.specs.Search.{searchSolution}
-use Rattle.model.specs.Orders.{byte, kind, Entry, refusal, push, trail, allowed, domains}
-use Rattle.model.specs.Answers.{statusOf, showing, answer, opening, lastAnswer, answerBytes}
+use Rattle.model.specs.Orders.{byte, kind, mask, Entry, depth, refusal, push, trail, allowed, domains}
+use Rattle.model.specs.Answers.{statusOf, Answer, showing, answer, opening, answersFrom, lastAnswer, acceptedCount, answerBytes}
 
--- ---- demand 1, of an order that comes when L stands and is refused: "a refused order changes nothing"
+-- ---- demand 1: orders over the book b
+-- a refused order changes nothing, and "A refused order shows the unchanged state"
 pub record ChangesNothing (b : Book) (L : List Entry) (o : List ℕ) : Type 0 where
   pub same-trail : push b L o ≡ L
-  -- "A refused order shows the unchanged state"
   pub shows : answer b L o ≡ showing b L (refusal b L o)
 
--- ---- demand 2, of the trail L
+-- how many answers have 0 as their refusal
+unfoldable pub unrefused : List Answer → ℕ
+unrefused [] = 0
+unrefused (a ∷ rest) = oneIf (eqb (a .refused) 0) + unrefused rest
+
+pub record Demand1 (b : Book) : Type 0 where
+  -- "a refused order changes nothing"
+  pub refused : (L : List Entry) (o : List ℕ) → (refusal b L o ≡ 0 → ⊥) → ChangesNothing b L o
+  -- "Being dead is never a cause of refusal: a dead session gives the same refusals as an open one": of what stands, the depth counts alone
+  pub by-depth : (L M : List Entry) (o : List ℕ) → depth L ≡ depth M → refusal b L o ≡ refusal b M o
+  -- "byte 0 the refusal or 0"
+  pub byte-0 : (L : List Entry) (o : List ℕ) → byte (answerBytes (answer b L o)) 0 ≡ refusal b L o
+  -- "Accepted: the number of accepted orders": as many as answers after the opening have no refusal
+  pub counted : (os : List (List ℕ)) → acceptedCount b os ≡ unrefused (answersFrom b [] os)
+
+-- ---- demand 2
+-- of the trail L: the current domains, and what a finish finds in them
 pub record Demand2 (b : Book) (L : List Entry) : Type 0 where
   -- "a value stays exactly when some sound box within the standing narrowings holds it"
   pub stays : (c v : ℕ) → (has (domains b L) c v ≡ true) ↔ Stays b (allowed b L) c v
   -- "dead exactly when there is no sound box": status 0, and "every domain is empty"
-  pub dead : (statusOf b (domains b L) ≡ 0) ↔ Fails b (allowed b L)
+  pub failed : (statusOf b (domains b L) ≡ 0) ↔ Fails b (allowed b L)
   pub empty : (domains b L ≡ emptyStore (columnCount b)) ↔ Fails b (allowed b L)
   -- "finish gives the first full set"
   pub found : (x : List ℕ) → (firstSolution b (domains b L) ≡ some x) ↔ FirstSolution b (domains b L) x
   -- "none exactly when there is none"
   pub not-found : (firstSolution b (domains b L) ≡ none) ↔ NoSolution b (domains b L)
-  -- "a dead session … its finish says none"
-  pub dead-finish : Fails b (allowed b L) → firstSolution b (domains b L) ≡ none
+  -- "a dead session …, and its finish says none"
+  pub failed-finish : Fails b (allowed b L) → firstSolution b (domains b L) ≡ none
   -- the search of document 01 finds just that
   pub searched : searchSolution b (domains b L) ≡ firstSolution b (domains b L)
+
+-- the answer a shows the state that the trail L leaves
+pub record ShowsState (b : Book) (L : List Entry) (a : Answer) : Type 0 where
+  pub stays : (c v : ℕ) → (has (a .shown) c v ≡ true) ↔ Stays b (allowed b L) c v
+  pub failed : (a .status ≡ 0) ↔ Fails b (allowed b L)
+  pub outcome : a .outcome ≡ 0
+
+-- the answer a is that of a finish when L stands: "1 found, 2 none", "one bit for each column, or zeros for none"
+pub record ShowsFinish (b : Book) (L : List Entry) (a : Answer) : Type 0 where
+  pub found : (a .outcome ≡ 1) ↔ ((x : List ℕ) × Solution b (domains b L) x)
+  pub first : (x : List ℕ) → FirstSolution b (domains b L) x → a .shown ≡ map (λ v. 2 ^ v) x
+  pub not-found : (a .outcome ≡ 2) ↔ NoSolution b (domains b L)
+  pub zeros : NoSolution b (domains b L) → a .shown ≡ tab (columnCount b) (λ c. 0)
+  pub failed : (a .status ≡ 0) ↔ Fails b (allowed b L)
+
+-- "at every answer": the opening, any order but an accepted finish, and an accepted finish
+pub record EveryAnswer (b : Book) : Type 0 where
+  pub opened : ShowsState b [] (opening b)
+  pub ordered : (L : List Entry) (o : List ℕ) → (kind o ≡ 4 → refusal b L o ≡ 0 → ⊥) → ShowsState b (push b L o) (answer b L o)
+  pub finished : (L : List Entry) (o : List ℕ) → kind o ≡ 4 → refusal b L o ≡ 0 → ShowsFinish b L (answer b L o)
+  -- "mask 0 is accepted and makes the session dead"
+  pub mask-0 : (L : List Entry) (o : List ℕ) → kind o ≡ 1 → refusal b L o ≡ 0 → mask o ≡ 0 → Fails b (allowed b (push b L o))
 
 -- ---- demand 3: two lists compared by what their trails allow
 -- "the same allowed values in every column"
@@ -99,7 +139,7 @@ module _ (Session : Type 0) (current : Session → List ℕ) (Holds : Book → L
     -- "If one accepted finish with the same bytes is then given to both, they agree in bytes 1, 3, 4 and 8 to 71 of its answer."
     pub same-finish : SameAllowed b (trail b xs) (trail b ys) → (o : List ℕ) → kind o ≡ 4
         → (s′ t′ : Session) (a′ d′ : List ℕ) → Stepped b s o s′ a′ → Stepped b t o t′ d′
-        → byte a′ 0 ≡ 0 → byte d′ 0 ≡ 0 → SameFinish a′ d′
+        → byte a′ 0 ≡ 0 → SameFinish a′ d′
     -- "Then each value in a current domain of the narrower is in the wider's domain of that column."
     pub narrower-within : Narrower b (trail b xs) (trail b ys) → Within (current s) (current t)
     -- "If there is a full set in the narrower's current domains, there is one in the wider's,
@@ -108,3 +148,17 @@ module _ (Session : Type 0) (current : Session → List ℕ) (Holds : Book → L
     -- and the wider's first is the same as the narrower's or has the lower value in the lowest column where they differ."
     pub wider-first : Narrower b (trail b xs) (trail b ys) → (x : List ℕ) → Solution b (current s) x
         → (y : List ℕ) × (z : List ℕ) × FirstSolution b (current s) y × FirstSolution b (current t) z × ((z ≡ y) ⊎ Lower z y)
+
+-- ---- the claims
+abbrev pub Claim1 : Type 0
+Claim1 = (b : Book) → Demand1 b
+
+abbrev pub Claim2 : Type 0
+Claim2 = (b : Book) → WellFormed b → ((L : List Entry) → Demand2 b L) × EveryAnswer b
+
+-- of any engine whose sessions hold the domains of their trail
+abbrev pub Claim3 : Type 1
+Claim3 =
+    (Session : Type 0) (current : Session → List ℕ) (Holds : Book → List Entry → Session → Type 0) → HoldsDomains Session current Holds
+    → (b : Book) (xs ys : List (List ℕ)) (s t : Session) (a d : List ℕ)
+    → Run Session current Holds b xs s a → Run Session current Holds b ys t d → Demand3 Session current Holds b xs ys s t a d

@@ -97,7 +97,7 @@ abbrev pub isAccepted : Book → List Entry → List ℕ → Bool
 isAccepted b L o = eqb (refusal b L o) 0
 
 -- ---- what an order makes of the trail
--- "an accepted narrow joins its end; a mark adds a bar; back m cuts away bar m and all after it; any other order does nothing"
+-- "an accepted narrow joins its end; a mark adds a bar; back m cuts away bar m and all after it; any other order … does nothing"
 unfoldable pub applied : List Entry → List ℕ → List Entry
 applied L o =
     byKind (kind o) (L ++ (narrowed (argument o) (mask o) ∷ [])) (L ++ (checkpoint ∷ [])) (before (argument o) L) L L

@@ -3,13 +3,13 @@ use mathlib.Core.Path.{_≡_}
 use mathlib.Core.Bool.{Bool, true, false, _&&_}
 use mathlib.Core.Logic.{_↔_}
 use mathlib.Core.List.{List, [], _∷_}
-use Prim.Native.Nat.{ℕ, _+_, _*_, _<_}
+use Prim.Native.Nat.{ℕ, suc, _+_, _*_, _≤_, _<_}
 use lib.Dec.{ltb}
 use lib.ListN.{length, getD}
 use Rattle.model.specs.Masks.{maskOf}
 use Rattle.model.specs.Stores.{has}
 use Rattle.model.specs.Books.{Sheet, Book}
-use Rattle.model.specs.Orders.{Entry, domains}
+use Rattle.model.specs.Orders.{Entry, depth, before, domains}
 
 -- "A row lies in a box when each of its values is in its column's domain": one value for each of these columns
 unfoldable pub valid : List ℕ → List ℕ → List ℕ → Bool
@@ -33,6 +33,7 @@ validWord D s w = maskOf 64 (λ k. validRow D s (w * 64 + k))
 --     index      5   0   2 | 7   1   6   3   4        words 5, 0 and 2 have a valid row, the others are zero
 --
 pub record Indexed (index : ℕ → ℕ) (n : ℕ) (word : ℕ → ℕ) : Type 0 where
+  pub few : n ≤ 8
   pub each : (i : ℕ) → i < 8 → index i < 8
   pub once : (i j : ℕ) → i < 8 → j < 8 → index i ≡ index j → i ≡ j
   pub limit : (i : ℕ) → i < 8 → (i < n) ↔ (0 < word (index i))
@@ -49,9 +50,21 @@ ofSheet xs s i = getD xs (s * 8 + i) 0
 abbrev pub sheetAt : Book → ℕ → Sheet
 sheetAt b s = getD (b .sheets) s (record { columns = []; rows = [] })
 
--- "its domains, depth and live rows are those of the standing list and its index keeps the invariant above": all but the depth, of a state
--- with these arrays; `counts` holds one more than the limit of each sheet
-pub record StateHolds (b : Book) (L : List Entry) (doms words index counts : List ℕ) : Type 0 where
-  pub domain : (c : ℕ) → getD doms c 0 ≡ getD (domains b L) c 0
-  pub rows : (s w : ℕ) → s < length (b .sheets) → w < 8 → ofSheet words s w ≡ validWord (domains b L) (sheetAt b s) w
-  pub indexed : (s : ℕ) → s < length (b .sheets) → Indexed (ofSheet index s) (getD counts s 0) (ofSheet words s)
+-- a state: "arrays of live-row words, index positions, limits and domains"; a limit is held as one more than it is
+pub record Arrays : Type 0 where
+  pub doms : List ℕ
+  pub words : List ℕ
+  pub index : List ℕ
+  pub limits : List ℕ
+
+-- "its domains … and live rows are those of the standing list and its index keeps the invariant above"
+pub record StateHolds (b : Book) (L : List Entry) (a : Arrays) : Type 0 where
+  pub domain : (c : ℕ) → getD (a .doms) c 0 ≡ getD (domains b L) c 0
+  pub rows : (s w : ℕ) → s < length (b .sheets) → w < 8 → ofSheet (a .words) s w ≡ validWord (domains b L) (sheetAt b s) w
+  pub indexed : (s : ℕ) → s < length (b .sheets) → Indexed (ofSheet (a .index) s) (getD (a .limits) s 0) (ofSheet (a .words) s)
+
+-- a session: its state and depth are those of the trail, and for each checkpoint it has saved the state of the trail before it
+pub record SessionHolds (b : Book) (L : List Entry) (now : Arrays) (marks : ℕ) (saved : ℕ → Arrays) : Type 0 where
+  pub current : StateHolds b L now
+  pub deep : marks ≡ depth L
+  pub marked : (k : ℕ) → k < depth L → StateHolds b (before (suc k) L) (saved k)

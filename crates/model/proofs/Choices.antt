@@ -195,9 +195,6 @@ lower-not x y a b = go (below (a .column) (b .column)) (below (b .column) (a .co
         let l : getD x (b .column) 0 < getD y (b .column) 0 = rw e at (a .less) in
         omega (arith, b .less)
 
-lower-not-self : (x y : List ℕ) → x ≡ y → Lower x y → ⊥
-lower-not-self x y e a = omega (arith, a .less, ap (λ (l : List ℕ). getD l (a .column) 0) e)
-
 -- there is one first choice
 pub first-unique : (B : List ℕ) (p : List ℕ → Bool) (x y : List ℕ) → First B p x → First B p y → x ≡ y
 first-unique B p x y f g = go (f .least y (g .takes) (g .passes)) (g .least x (f .takes) (f .passes))

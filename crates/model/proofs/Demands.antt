@@ -4,18 +4,18 @@ use mathlib.Core.Bool.{Bool, true, false, not, _&&_, _||_, false≢true, true≢
 use mathlib.Core.Logic.{_⊎_, inl, inr, _↔_}
 use mathlib.Core.Option.{none, some}
 use mathlib.Core.List.{List, [], _∷_, _++_}
-use Prim.Native.Nat.{ℕ, zero, suc, _+_, _≤_, _<_}
+use Prim.Native.Nat.{ℕ, suc, _+_, _-_, _≤_, _<_}
 use native.Mathlib.Omega.{arith}
-use lib.Dec.{eqb}
+use lib.Dec.{eqb, leb}
 use lib.ListN.{getD}
-use borrow.Author.Tests.{eqb-true, eq-eqb, ne-eqb}
+use borrow.Author.Tests.{eqb-true, eq-eqb, ne-eqb, lt-leb}
 use Rattle.model.specs.Tests.{oneIf}
 use Rattle.model.specs.Masks.{bit}
 use Rattle.model.specs.Stores.{has, Within, IsStore, emptyStore, allFilled}
 use Rattle.model.specs.Choices.{Lower}
 use Rattle.model.specs.Books.{Book, columnCount, WellFormed, ConsistentStore, Stays, Fails, closure}
 use Rattle.model.specs.Solutions.{Solution, FirstSolution, firstSolution}
-use Rattle.model.specs.Orders.{byte, kind, argument, mask, Entry, narrowed, refusal, isAccepted, push, trailFrom, trail, allowed, domains}
+use Rattle.model.specs.Orders.{byte, kind, argument, mask, nonzero, Entry, narrowed, outside, refusal, isAccepted, push, trailFrom, trail, allowed, domains}
 use Rattle.model.specs.Answers.{assigned, statusOf, doneOf, Answer, showing, outcomeOf, solutionMasks, finishing, answer, opening, answersFrom, lastFrom, lastAnswer, acceptedFrom, domainBytes, answerBytes}
 use Rattle.model.specs.Demands.{ChangesNothing, unrefused, Demand2, ShowsState, ShowsFinish, EveryAnswer, SameAllowed, Narrower, SameFinish, HoldsDomains, Stepped, Chain, Run, Gives, Demand3, Claim1, Claim2, Claim3}
 use Rattle.model.proofs.Tests.{and-l, and-r, and-i, and-false, either}
@@ -26,7 +26,7 @@ use Rattle.model.proofs.Books.{stays-iff, fails-iff, closed-or-empty}
 use Rattle.model.proofs.Solutions.{found-iff, none-iff, has-first, solution-mono, first-same, first-wider}
 use Rattle.model.proofs.Search.{search-first}
 use Rattle.model.proofs.Trails.{allowed-store, domains-store, domains-closed, domains-mono, narrowed-e}
-use Rattle.model.proofs.Refusals.{refusal-depth, refusal-finish, accepted-narrow, push-refused, push-narrow, push-finish}
+use Rattle.model.proofs.Refusals.{refusal-depth, outside-none, refusal-narrow, refusal-finish, accepted-narrow, push-refused, push-narrow, push-finish}
 
 -- ---- answers
 -- an accepted finish, and any other order
@@ -82,6 +82,13 @@ bytes-1 : (a : Answer) → byte (answerBytes a) 1 ≡ a .status
 unfolding answerBytes
 bytes-1 a = refl
 
+-- bytes 8 on are the domains shown
+pub bytes-8-on : (a : Answer) (i : ℕ) → 8 ≤ i → byte (answerBytes a) i ≡ getD (domainBytes (a .shown) 16) (i - 8) 0
+unfolding answerBytes
+bytes-8-on a i p =
+    let e : i ≡ suc (suc (suc (suc (suc (suc (suc (suc (i - 8)))))))) = omega arith in
+    ap (λ (j : ℕ). byte (answerBytes a) j) e
+
 bytes-4 : (a : Answer) → byte (answerBytes a) 4 ≡ a .done
 unfolding answerBytes
 bytes-4 a = refl
@@ -100,11 +107,25 @@ count-unrefused b [] L = refl
 count-unrefused b (o ∷ os) L =
     ap₂ (λ (r n : ℕ). oneIf (eqb r 0) + n) (sym (answer-refused b L o)) (count-unrefused b os (push b L o))
 
+mask-0-accepted : (b : Book) (L : List Entry) (o : List ℕ) → kind o ≡ 1 → nonzero 2 2 o ≡ false → argument o < columnCount b → mask o ≡ 0
+    → refusal b L o ≡ 0
+mask-0-accepted b L o k n l z =
+    refusal-narrow b L o k ∙ rw (n, lt-leb (columnCount b) (argument o) l, outside-0)
+  where
+    no-bit : (v : ℕ) → (leb (getD (b .counts) (argument o) 0) v && bit v (mask o)) ≡ false
+    no-bit v =
+        ap (λ (t : Bool). leb (getD (b .counts) (argument o) 0) v && t) (ap (bit v) z ∙ bit-of-zero v)
+        ∙ and-false (leb (getD (b .counts) (argument o) 0) v)
+
+    outside-0 : outside b (argument o) (mask o) ≡ false
+    outside-0 = outside-none b (argument o) (mask o) no-bit
+
 pub claim1 : Claim1
 claim1 b =
     record {
       refused = refused-order b;
       by-depth = refusal-depth b;
+      mask-0 = mask-0-accepted b;
       byte-0 = λ L o. bytes-0 (answer b L o) ∙ answer-refused b L o;
       counted = λ os. count-unrefused b os [];
     }
@@ -263,22 +284,11 @@ finishing-same b L M e =
       byte-1 = ap (statusOf b) e;
       byte-3 = ap (λ (D : List ℕ). outcomeOf (firstSolution b D)) e;
       byte-4 = ap (doneOf b) e;
-      bytes-8-to-71 = λ i p q. tail i p;
+      bytes-8-to-71 = λ i p q.
+          bytes-8-on (finishing b L) i p
+          ∙ ap (λ (D : List ℕ). getD (domainBytes (solutionMasks (columnCount b) (firstSolution b D)) 16) (i - 8) 0) e
+          ∙ sym (bytes-8-on (finishing b M) i p);
     }
-  where
-    bytes : List ℕ → List ℕ
-    bytes D = domainBytes (solutionMasks (columnCount b) (firstSolution b D)) 16
-
-    tail : (i : ℕ) → 8 ≤ i → byte (answerBytes (finishing b L)) i ≡ byte (answerBytes (finishing b M)) i
-    tail zero p = absurd (omega arith)
-    tail (suc zero) p = absurd (omega arith)
-    tail (suc (suc zero)) p = absurd (omega arith)
-    tail (suc (suc (suc zero))) p = absurd (omega arith)
-    tail (suc (suc (suc (suc zero)))) p = absurd (omega arith)
-    tail (suc (suc (suc (suc (suc zero))))) p = absurd (omega arith)
-    tail (suc (suc (suc (suc (suc (suc zero)))))) p = absurd (omega arith)
-    tail (suc (suc (suc (suc (suc (suc (suc zero))))))) p = absurd (omega arith)
-    tail (suc (suc (suc (suc (suc (suc (suc (suc i)))))))) p = ap (λ (D : List ℕ). getD (bytes D) i 0) e
 
 -- ---- demand 3
 module _ (Session : Type 0) (current : Session → List ℕ) (Holds : Book → List Entry → Session → Type 0) where

@@ -45,13 +45,6 @@ bit-maskOf (suc k) f zero h = low (f 0) _
 bit-maskOf (suc k) f (suc v) h =
     bit-suc v _ ∙ ap (bit v) (half (f 0) _) ∙ bit-maskOf k (λ j. f (suc j)) v (le-of-suc-le-suc h)
 
-pub bit-maskOf-out : (k : ℕ) (f : ℕ → Bool) (v : ℕ) → k ≤ v → bit v (maskOf k f) ≡ false
-unfolding maskOf
-bit-maskOf-out zero f v h = bit-of-zero v
-bit-maskOf-out (suc k) f zero h = absurd (not-suc-le-zero h)
-bit-maskOf-out (suc k) f (suc v) h =
-    bit-suc v _ ∙ ap (bit v) (half (f 0) _) ∙ bit-maskOf-out k (λ j. f (suc j)) v (le-of-suc-le-suc h)
-
 pub maskOf-lt : (k : ℕ) (f : ℕ → Bool) → maskOf k f < 2 ^ k
 unfolding maskOf
 maskOf-lt zero f = omega arith
@@ -140,6 +133,9 @@ bit-or =
 pub bit-high : (k m v : ℕ) → m < 2 ^ k → k ≤ v → bit v m ≡ false
 unfolding bit
 bit-high k m v h l = rw (div-eq-of-lt (lt-of-lt-of-le h (pow-mono l)))
+
+pub bit-maskOf-out : (k : ℕ) (f : ℕ → Bool) (v : ℕ) → k ≤ v → bit v (maskOf k f) ≡ false
+bit-maskOf-out k f v l = bit-high k (maskOf k f) v (maskOf-lt k f) l
 
 pub bit-below : (k m v : ℕ) → m < 2 ^ k → bit v m ≡ true → v < k
 bit-below k m v h e = go (below v k)

@@ -1,21 +1,28 @@
 -- Laws of refusals: each kind's causes in their order, what an accepted order tells, and what a refused one leaves. Assumes nothing.
 use mathlib.Core.Path.{_≡_, refl, sym, _∙_}
-use mathlib.Core.Bool.{Bool, true, false, cond, _||_, true≢false}
+use mathlib.Core.Bool.{Bool, true, false, cond, _&&_, _||_, true≢false}
 use mathlib.Core.Logic.{_⊎_, inl, inr}
 use mathlib.Core.List.{List, [], _∷_, _++_}
 use Prim.Native.Nat.{ℕ, zero, suc, _≤_, _<_}
 use native.Mathlib.Omega.{arith}
 use lib.Dec.{eqb, ltb, leb}
+use lib.ListN.{getD}
 use borrow.Author.Tests.{eqb-true, eqb-false, ne-eqb, ltb-false, leb-false}
+use Rattle.model.specs.Masks.{bit}
 use Rattle.model.specs.Books.{Book, columnCount}
 use Rattle.model.specs.Orders.{kind, argument, mask, nonzero, Entry, narrowed, checkpoint, depth, before, Cause, refuse_if_, firstCause, outside, refusal, applied, push, trailFrom}
-use Rattle.model.proofs.Tests.{or-l, or-r, either}
+use Rattle.model.proofs.Tests.{or-l, or-r, either, anyBelow-none}
 use Rattle.model.proofs.Trails.{depth-narrowed, depth-checkpoint, depth-before}
 
 -- "An order's refusal goes by its bytes, the book and this list only", and of the list by its depth alone: being dead is no cause
 pub refusal-depth : (b : Book) (L M : List Entry) (o : List ℕ) → depth L ≡ depth M → refusal b L o ≡ refusal b M o
 unfolding refusal
 refusal-depth b L M o e = rw e
+
+-- no bit of the mask lies outside where none at or above V is set
+pub outside-none : (b : Book) (c m : ℕ) → ((v : ℕ) → (leb (getD (b .counts) c 0) v && bit v m) ≡ false) → outside b c m ≡ false
+unfolding outside
+outside-none b c m h = anyBelow-none 32 (λ v. leb (getD (b .counts) c 0) v && bit v m) (λ v l. h v)
 
 -- no cause: each test is false
 no-cause : (n : ℕ) (t : Bool) (cs : List Cause) → firstCause ((refuse suc n if t) ∷ cs) ≡ 0 → (t ≡ false) × (firstCause cs ≡ 0)

@@ -17,7 +17,7 @@ use Rattle.model.specs.Tests.{anyBelow, oneIf, sum, tab}
 use Rattle.model.specs.Masks.{bit, maskOf}
 use Rattle.model.specs.Stores.{has, Within, IsStore, storeOf, emptyStore, meet, assign, allFilled, values}
 use Rattle.model.proofs.Tests.{and-true, either, allBelow-e, allBelow-i, anyBelow-e, anyBelow-i, sum-le, sum-eq, oneIf-le, oneIf-eq, length-tab, getD-tab, getD-tab-out, tab-same, below}
-use Rattle.model.proofs.Masks.{bit-of-zero, bit-maskOf, bit-maskOf-out, maskOf-lt, maskOf-same, mask-ext, bit-and, bit-below, bit-pow, bit-pow-only}
+use Rattle.model.proofs.Masks.{bit-of-zero, bit-maskOf, maskOf-lt, maskOf-same, mask-ext, bit-and, bit-maskOf-out, bit-below, bit-pow, bit-pow-only}
 
 pub has-i : (C : ℕ) (f : ℕ → ℕ → Bool) (c v : ℕ) → c < C → v < 32 → f c v ≡ true → has (storeOf C f) c v ≡ true
 unfolding has storeOf

@@ -2,7 +2,7 @@
 -- every list of orders over every book has a run. Assumes nothing.
 use mathlib.Core.Path.{_≡_, refl, sym, ap, _∙_}
 use mathlib.Core.Bool.{Bool, true, _&&_}
-use mathlib.Core.Logic.{_↔_}
+use mathlib.Core.Logic.{_⊎_, inl, inr, ⊎-elim}
 use mathlib.Core.List.{List, [], _∷_}
 use Prim.Native.Nat.{ℕ, zero, suc, _<_}
 use native.Mathlib.Omega.{arith}
@@ -96,17 +96,19 @@ first-indexed index word e p z =
       few = omega arith;
       each = λ i l. omega (arith, own i l);
       once = λ i j l m q. sym (own i l) ∙ q ∙ own j m;
-      limit = λ i l. rw (own i l) (at i l);
+      limit = λ i l. (
+        λ h. ⊎-elim (λ w. omega arith) (λ w. omega arith) (word-at i l),
+        λ h. ⊎-elim (λ w. omega arith) (λ w. omega arith) (word-at i l),
+      );
     }
   where
     own : (i : ℕ) → i < 8 → index i ≡ i
     own i l = eqb-true _ _ (allBelow-e 8 (λ i. eqb (index i) i) e i l)
 
-    at : (i : ℕ) → i < 8 → (i < 1) ↔ (0 < word i)
-    at zero l = (λ h. p, λ h. omega arith)
-    at (suc i) l =
-        let q : word (suc i) ≡ 0 = eqb-true _ _ (allBelow-e 7 (λ i. eqb (word (suc i)) 0) z i (omega arith)) in
-        (λ h. absurd (omega arith), λ h. absurd (omega arith))
+    word-at : (i : ℕ) → i < 8 → ((i ≡ 0) × (0 < word (index i))) ⊎ ((0 < i) × (word (index i) ≡ 0))
+    word-at zero l = inl (refl, rw (own zero l) p)
+    word-at (suc i) l =
+        inr (omega arith, ap word (own (suc i) l) ∙ eqb-true _ _ (allBelow-e 7 (λ i. eqb (word (suc i)) 0) z i (omega arith)))
 
 pub rowFacts : RowFacts
 unfolding computing valid validRow validWord

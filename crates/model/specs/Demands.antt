@@ -1,11 +1,11 @@
 -- The demands, so far as they speak of the definitions: what each says, and at the end the three claims, which `claim1`, `claim2` and `claim3`
 -- of proofs/Demands.antt prove. Quoted are the customer's demands and document 01.
 use mathlib.Core.Path.{_≡_}
-use mathlib.Core.Bool.{true}
+use mathlib.Core.Bool.{true, false}
 use mathlib.Core.Logic.{_⊎_, _↔_}
 use mathlib.Core.Option.{none, some}
 use mathlib.Core.List.{List, [], _∷_, map}
-use Prim.Native.Nat.{ℕ, _+_, _^_, _≤_}
+use Prim.Native.Nat.{ℕ, _+_, _^_, _≤_, _<_}
 use lib.Dec.{eqb}
 use lib.ListN.{getD}
 use Rattle.model.specs.Tests.{oneIf, tab}
@@ -14,7 +14,7 @@ use Rattle.model.specs.Choices.{Lower}
 use Rattle.model.specs.Books.{Book, columnCount, WellFormed, Stays, Fails}
 use Rattle.model.specs.Solutions.{Solution, FirstSolution, NoSolution, firstSolution}
 use Rattle.model.specs.Search.{searchSolution}
-use Rattle.model.specs.Orders.{byte, kind, mask, Entry, depth, refusal, push, trail, allowed, domains}
+use Rattle.model.specs.Orders.{byte, kind, argument, mask, nonzero, Entry, depth, refusal, push, trail, allowed, domains}
 use Rattle.model.specs.Answers.{statusOf, Answer, showing, answer, opening, answersFrom, lastAnswer, acceptedCount, answerBytes}
 
 -- ---- demand 1: orders over the book b
@@ -33,6 +33,8 @@ pub record Demand1 (b : Book) : Type 0 where
   pub refused : (L : List Entry) (o : List ℕ) → (refusal b L o ≡ 0 → ⊥) → ChangesNothing b L o
   -- "Being dead is never a cause of refusal: a dead session gives the same refusals as an open one": of what stands, the depth counts alone
   pub by-depth : (L M : List Entry) (o : List ℕ) → depth L ≡ depth M → refusal b L o ≡ refusal b M o
+  -- "mask 0 is accepted": it is no cause
+  pub mask-0 : (L : List Entry) (o : List ℕ) → kind o ≡ 1 → nonzero 2 2 o ≡ false → argument o < columnCount b → mask o ≡ 0 → refusal b L o ≡ 0
   -- "byte 0 the refusal or 0"
   pub byte-0 : (L : List Entry) (o : List ℕ) → byte (answerBytes (answer b L o)) 0 ≡ refusal b L o
   -- "Accepted: the number of accepted orders": as many as answers after the opening have no refusal
@@ -74,7 +76,7 @@ pub record EveryAnswer (b : Book) : Type 0 where
   pub opened : ShowsState b [] (opening b)
   pub ordered : (L : List Entry) (o : List ℕ) → (kind o ≡ 4 → refusal b L o ≡ 0 → ⊥) → ShowsState b (push b L o) (answer b L o)
   pub finished : (L : List Entry) (o : List ℕ) → kind o ≡ 4 → refusal b L o ≡ 0 → ShowsFinish b L (answer b L o)
-  -- "mask 0 is accepted and makes the session dead"
+  -- "mask 0 is accepted and makes the session dead"; that it is accepted: `Demand1 .mask-0`
   pub mask-0 : (L : List Entry) (o : List ℕ) → kind o ≡ 1 → refusal b L o ≡ 0 → mask o ≡ 0 → Fails b (allowed b (push b L o))
 
 -- ---- demand 3: two lists compared by what their trails allow

@@ -1,6 +1,7 @@
 -- The laws of the model: the customer's examples, so that a wrong definition shows there first, then bottom-up to the demands.
 pub mod Acceptance
 pub mod Tests
+pub mod Firsts
 pub mod Masks
 pub mod Stores
 pub mod Closure

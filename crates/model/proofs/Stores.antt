@@ -22,7 +22,7 @@ use Rattle.model.proofs.Masks.{bit-of-zero, bit-maskOf, maskOf-lt, mask
 pub has-i : (C : ℕ) (f : ℕ → ℕ → Bool) (c v : ℕ) → c < C → v < 32 → f c v ≡ true → has (storeOf C f) c v ≡ true
 unfolding has storeOf
 has-i C f c v hc hv e =
-    ap (bit v) (getD-tab C (λ k. maskOf 32 (λ w. f k w)) c hc) ∙ bit-maskOf 32 (λ w. f c w) v hv ∙ e
+    ap (bit v) (getD-tab 0 C (λ k. maskOf 32 (λ w. f k w)) c hc) ∙ bit-maskOf 32 (λ w. f c w) v hv ∙ e
 
 pub has-e : (C : ℕ) (f : ℕ → ℕ → Bool) (c v : ℕ) → has (storeOf C f) c v ≡ true → (c < C) × (v < 32) × (f c v ≡ true)
 unfolding has storeOf
@@ -30,9 +30,9 @@ has-e C f c v e = go (below c C) (below v 32)
   where
     go : (c < C) ⊎ (C ≤ c) → (v < 32) ⊎ (32 ≤ v) → (c < C) × (v < 32) × (f c v ≡ true)
     go (inl p) (inl q) =
-        (p, q, sym (bit-maskOf 32 (λ w. f c w) v q) ∙ ap (bit v) (sym (getD-tab C (λ k. maskOf 32 (λ w. f k w)) c p)) ∙ e)
+        (p, q, sym (bit-maskOf 32 (λ w. f c w) v q) ∙ ap (bit v) (sym (getD-tab 0 C (λ k. maskOf 32 (λ w. f k w)) c p)) ∙ e)
     go (inl p) (inr q) =
-        absurd (false≢true (sym (bit-maskOf-out 32 (λ w. f c w) v q) ∙ ap (bit v) (sym (getD-tab C (λ k. maskOf 32 (λ w. f k w)) c p)) ∙ e))
+        absurd (false≢true (sym (bit-maskOf-out 32 (λ w. f c w) v q) ∙ ap (bit v) (sym (getD-tab 0 C (λ k. maskOf 32 (λ w. f k w)) c p)) ∙ e))
     go (inr p) q =
         absurd (false≢true (sym (bit-of-zero v) ∙ ap (bit v) (sym (getD-tab-out C (λ k. maskOf 32 (λ w. f k w)) c p)) ∙ e))
 
@@ -45,7 +45,7 @@ unfolding storeOf
 is-store C f = record { columns = length-tab C _; bits = λ c. go c (below c C) }
   where
     go : (c : ℕ) → (c < C) ⊎ (C ≤ c) → getD (tab C (λ k. maskOf 32 (λ w. f k w))) c 0 < 2 ^ 32
-    go c (inl p) = rw (getD-tab C (λ k. maskOf 32 (λ w. f k w)) c p) (maskOf-lt 32 (λ w. f c w))
+    go c (inl p) = rw (getD-tab 0 C (λ k. maskOf 32 (λ w. f k w)) c p) (maskOf-lt 32 (λ w. f c w))
     go c (inr p) = rw (getD-tab-out C (λ k. maskOf 32 (λ w. f k w)) c p) (omega arith)
 
 -- stores with the same values are equal

@@ -3,7 +3,7 @@ use mathlib.Core.Path.{_≡_, refl, sym, ap, _∙_}
 use mathlib.Core.Bool.{Bool, true, false, _&&_, _||_, false≢true}
 use mathlib.Core.Logic.{_⊎_, inl, inr}
 use mathlib.Core.List.{List, [], _∷_, List·Memᴰ, List·Memᴰ·head, List·Memᴰ·tail}
-use Prim.Native.Nat.{ℕ, zero, suc, _≤_, _<_}
+use Prim.Native.Nat.{ℕ, zero, suc, _+_, _≤_, _<_}
 use native.Mathlib.Nat.{not-suc-le-zero, le-of-suc-le-suc, le-refl, zero-lt-suc}
 use native.Mathlib.Omega.{arith}
 use lib.Dec.{eqb, ltb}
@@ -34,6 +34,22 @@ or-l a b p = cc
 pub or-r : (a b : Bool) → b ≡ true → (a || b) ≡ true
 or-r true b p = refl
 or-r false b p = p
+
+pub or-false-l : (a b : Bool) → (a || b) ≡ false → a ≡ false
+or-false-l true b e = e
+or-false-l false b e = refl
+
+pub or-false-r : (a b : Bool) → (a || b) ≡ false → b ≡ false
+or-false-r true b e = absurd (false≢true (sym e))
+or-false-r false b e = e
+
+-- two pairs of tests, one from each
+pub or-swap : (a b c d : Bool) → ((a || b) || (c || d)) ≡ ((a || c) || (b || d))
+or-swap true b c d = refl
+or-swap false true true d = refl
+or-swap false true false d = refl
+or-swap false false true d = refl
+or-swap false false false d = refl
 
 pub and-true : (a : Bool) → (a && true) ≡ a
 and-true true = refl
@@ -141,6 +157,17 @@ sum-le zero f g h = omega arith
 sum-le (suc n) f g h =
     omega (arith, h 0 (zero-lt-suc n), sum-le n (λ j. f (suc j)) (λ j. g (suc j)) (λ i l. h (suc i) (omega arith)))
 
+-- one term more, at the end
+pub sum-last : (n : ℕ) (f : ℕ → ℕ) → sum (suc n) f ≡ sum n f + f n
+unfolding sum
+sum-last zero f = omega arith
+sum-last (suc n) f = omega (arith, sum-last n (λ j. f (suc j)))
+
+pub sum-same : (n : ℕ) (f g : ℕ → ℕ) → ((i : ℕ) → i < n → f i ≡ g i) → sum n f ≡ sum n g
+unfolding sum
+sum-same zero f g h = refl
+sum-same (suc n) f g h = omega (arith, h 0 (zero-lt-suc n), sum-same n (λ j. f (suc j)) (λ j. g (suc j)) (λ i l. h (suc i) (omega arith)))
+
 -- a sum that did not fall has every term as it was
 pub sum-eq : (n : ℕ) (f g : ℕ → ℕ) → ((i : ℕ) → i < n → f i ≤ g i) → sum n f ≡ sum n g → (i : ℕ) → i < n → f i ≡ g i
 unfolding sum
@@ -198,6 +225,15 @@ lowest-before (suc n) f i h = go i h (either (f 0)) (lowest-before n (λ i. f (s
     go zero l (inr q) r = q
     go (suc i) l (inr q) r = let k : lowest (suc n) f ≡ suc (lowest n (λ i. f (suc i))) = rw q in r i (omega arith)
 
+pub lowest-le : (n : ℕ) (f : ℕ → Bool) → lowest n f ≤ n
+unfolding lowest
+lowest-le zero f = omega arith
+lowest-le (suc n) f = go (either (f 0)) (lowest-le n (λ i. f (suc i)))
+  where
+    go : (f 0 ≡ true) ⊎ (f 0 ≡ false) → lowest n (λ i. f (suc i)) ≤ n → lowest (suc n) f ≤ suc n
+    go (inl p) l = let k : lowest (suc n) f ≡ 0 = rw p in omega arith
+    go (inr q) l = let k : lowest (suc n) f ≡ suc (lowest n (λ i. f (suc i))) = rw q in omega arith
+
 -- ---- exactly one
 sum-zero : (n : ℕ) (f : ℕ → ℕ) → sum n f ≡ 0 → (i : ℕ) → i < n → f i ≡ 0
 unfolding sum
@@ -248,16 +284,16 @@ one-count (suc n) f (suc i) l p h =
     )
 
 -- ---- a table
-pub length-tab : (n : ℕ) (f : ℕ → ℕ) → length (tab n f) ≡ n
+pub length-tab : {A : Type 0} (n : ℕ) (f : ℕ → A) → length (tab n f) ≡ n
 unfolding tab
 length-tab zero f = refl
 length-tab (suc n) f = ap suc (length-tab n (λ i. f (suc i)))
 
-pub getD-tab : (n : ℕ) (f : ℕ → ℕ) (i : ℕ) → i < n → getD (tab n f) i 0 ≡ f i
+pub getD-tab : {A : Type 0} (d : A) (n : ℕ) (f : ℕ → A) (i : ℕ) → i < n → getD (tab n f) i d ≡ f i
 unfolding tab
-getD-tab zero f i h = absurd (not-suc-le-zero h)
-getD-tab (suc n) f zero h = refl
-getD-tab (suc n) f (suc i) h = getD-tab n (λ j. f (suc j)) i (le-of-suc-le-suc h)
+getD-tab d zero f i h = absurd (not-suc-le-zero h)
+getD-tab d (suc n) f zero h = refl
+getD-tab d (suc n) f (suc i) h = getD-tab d n (λ j. f (suc j)) i (le-of-suc-le-suc h)
 
 pub getD-tab-out : (n : ℕ) (f : ℕ → ℕ) (i : ℕ) → n ≤ i → getD (tab n f) i 0 ≡ 0
 getD-tab-out n f i h = List·getD-eq-default (tab n f) 0 (omega (arith, length-tab n f))
@@ -265,7 +301,7 @@ getD-tab-out n f i h = List·getD-eq-default (tab n f) 0 (omega (arith, length-t
 pub tab-same : (n : ℕ) (f g : ℕ → ℕ) → ((i : ℕ) → i < n → f i ≡ g i) → tab n f ≡ tab n g
 tab-same n f g h =
     ext-getD 0 (tab n f) (tab n g) (length-tab n f ∙ sym (length-tab n g))
-    (λ i l. let k : i < n = omega (arith, length-tab n f) in getD-tab n f i k ∙ h i k ∙ sym (getD-tab n g i k))
+    (λ i l. let k : i < n = omega (arith, length-tab n f) in getD-tab 0 n f i k ∙ h i k ∙ sym (getD-tab 0 n g i k))
 
 -- ---- order
 -- a number is below another, or not

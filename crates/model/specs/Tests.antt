@@ -1,7 +1,8 @@
 -- Tests over the numbers below a bound and over the elements of a list, counts and the lowest number that passes.
+use mathlib.Core.Path.{_≡_}
 use mathlib.Core.Bool.{Bool, true, false, cond, _&&_, _||_}
 use mathlib.Core.List.{List, [], _∷_}
-use Prim.Native.Nat.{ℕ, zero, suc, _+_}
+use Prim.Native.Nat.{ℕ, zero, suc, _+_, _≤_, _<_}
 use lib.Dec.{eqb}
 
 -- every number below the bound passes
@@ -50,7 +51,23 @@ eqList [] (y ∷ ys) = false
 eqList (x ∷ xs) [] = false
 eqList (x ∷ xs) (y ∷ ys) = eqb x y && eqList xs ys
 
+-- no number from a on and below e passes
+pub record NoneIn (f : ℕ → Bool) (a e : ℕ) : Type 0 where
+  pub at : (i : ℕ) → a ≤ i → i < e → f i ≡ false
+
+-- r is the first number from a on and below e that passes, or e: what a loop that looks for it gives
+pub record FirstIn (f : ℕ → Bool) (a e r : ℕ) : Type 0 where
+  pub from : a ≤ r
+  pub to : r ≤ e
+  pub none : NoneIn f a r
+  pub passes : r < e → f r ≡ true
+
+-- r tells whether some number from a on and below e passes
+pub record Finds (f : ℕ → Bool) (a e : ℕ) (r : Bool) : Type 0 where
+  pub none : r ≡ false → NoneIn f a e
+  pub some : r ≡ true → (i : ℕ) × (a ≤ i) × (i < e) × (f i ≡ true)
+
 -- the list f 0, f 1, .. , n elements
-unfoldable pub tab : ℕ → (ℕ → ℕ) → List ℕ
+unfoldable pub tab : {A : Type 0} → ℕ → (ℕ → A) → List A
 tab zero f = []
 tab (suc n) f = f 0 ∷ tab n (λ i. f (suc i))

@@ -1,0 +1,8 @@
+-- The laws behind the format's functions: numbers and bytes, the head field by field, the rows, the verdict, and the decoded book.
+
+pub mod Numbers
+pub mod Offsets
+pub mod Right
+pub mod Bounds
+pub mod Faults
+pub mod Results

@@ -1,0 +1,59 @@
+use mathlib.Core.Path.{sym, _∙_}
+use native.Mathlib.Nat.{le-refl}
+use borrow.Author.Needs.{needs}
+use Rattle.model.proofs.Firsts.{firstIn-found, firstIn-join, firstIn-same, none-empty, none-more}
+use Rattle.book.proofs.Offsets.{field-columns, field-letters, field-sheets, field-zero, right-letters}
+use Rattle.book.proofs.head.first_in_front.Statement.{statement}
+use Rattle.book.proofs.head.first_in_front.Tie as tie
+
+wrong-letters-requires : tie.Need-wrong-letters-requires
+wrong-letters-requires c κs = search needs
+
+returns : tie.Need-returns
+returns c = firstIn-found (search needs) (search needs) (none-empty (le-refl _)) (field-letters (c .before .before .before .args .h .now) ∙ sym (c .before .wrong-letters .ensures) ∙ c .if1 .taken)
+
+wrong-columns-requires : tie.Need-wrong-columns-requires
+wrong-columns-requires c κs = search needs
+
+returns-2 : tie.Need-returns-2
+returns-2 c = let b = c .before .before .before .before .before .args .h .now in
+    firstIn-found (search needs) (search needs)
+    (right-letters b (sym (c .before .before .before .wrong-letters .ensures) ∙ c .before .before .if1 .left))
+    (field-columns b ∙ sym (c .before .wrong-columns .ensures) ∙ c .if2 .taken)
+
+wrong-sheets-requires : tie.Need-wrong-sheets-requires
+wrong-sheets-requires c κs = search needs
+
+returns-3 : tie.Need-returns-3
+returns-3 c = let b = c .before .before .before .before .before .before .before .args .h .now in
+    firstIn-found (search needs) (search needs)
+    (none-more
+    (right-letters b (sym (c .before .before .before .before .before .wrong-letters .ensures) ∙ c .before .before .before .before .if1 .left))
+    (field-columns b ∙ sym (c .before .before .before .wrong-columns .ensures) ∙ c .before .before .if2 .left))
+    (field-sheets b ∙ sym (c .before .wrong-sheets .ensures) ∙ c .if3 .taken)
+
+first-set-requires : tie.Need-first-set-requires
+first-set-requires c κs = search needs
+
+returns-4 : tie.Need-returns-4
+returns-4 c = let b = c .before .before .before .before .before .before .before .before .args .h .now in
+    firstIn-join (search needs)
+    (none-more
+    (none-more
+    (right-letters b (sym (c .before .before .before .before .before .before .wrong-letters .ensures) ∙ c .before .before .before .before .before .if1 .left))
+    (field-columns b ∙ sym (c .before .before .before .before .wrong-columns .ensures) ∙ c .before .before .before .if2 .left))
+    (field-sheets b ∙ sym (c .before .before .wrong-sheets .ensures) ∙ c .before .if3 .left))
+    (firstIn-same (λ i p q. sym (field-zero b i p q)) (c .first-set .ensures))
+
+pub first-in-front-spec : {M : Type 1} → statement M
+first-in-front-spec =
+    tie.close
+    (tie.spec
+    wrong-letters-requires
+    returns
+    wrong-columns-requires
+    returns-2
+    wrong-sheets-requires
+    returns-3
+    first-set-requires
+    returns-4)

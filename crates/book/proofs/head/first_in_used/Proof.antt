@@ -1,0 +1,68 @@
+use mathlib.Core.Path.{_≡_}
+use Prim.Native.Nat.{_+_, _*_, _-_, _≤_}
+use native.Mathlib.Nat.{le-refl}
+use native.Mathlib.Omega.{arith}
+use borrow.Author.Needs.{needs}
+use Rattle.model.specs.Tests.{NoneIn}
+use Rattle.model.proofs.Firsts.{firstIn-end, firstIn-join, firstIn-none, firstIn-wider, none-empty, none-join}
+use Rattle.book.specs.Head.{wrongField}
+use Rattle.book.proofs.head.first_in_used.Statement.{statement}
+use Rattle.book.proofs.head.first_in_used.Tie as tie
+
+abbrev Inv-loop : tie.InvT-loop
+Inv-loop h n s₀ s = (s ≤ n) × NoneIn (wrongField h) 24 (24 + 8 * s)
+
+abbrev μ-loop : tie.MeasureT-loop
+μ-loop h n s₀ s = n - s
+
+loop-holds : tie.Need-loop-holds Inv-loop μ-loop
+loop-holds c = (search needs, none-empty (le-refl _))
+
+first-in-entry-requires : tie.Need-first-in-entry-requires Inv-loop μ-loop
+first-in-entry-requires c κs = search needs
+
+mul-if1 : tie.Need-mul-if1 Inv-loop μ-loop
+mul-if1 c = search needs
+
+add-if1 : tie.Need-add-if1 Inv-loop μ-loop
+add-if1 c = search needs
+
+returns : tie.Need-returns Inv-loop μ-loop
+returns c = firstIn-join (search needs) (c .before .before .before .loop .inv .1) (firstIn-wider _ (search needs) (c .before .first-in-entry .ensures) (c .if1 .taken))
+
+add-s : tie.Need-add-s Inv-loop μ-loop
+add-s c = search needs
+
+loop-less : tie.Need-loop-less Inv-loop μ-loop
+loop-less c = search needs
+
+loop-again : tie.Need-loop-again Inv-loop μ-loop
+loop-again c = let e : 24 + 8 * (c .before .before .before .loop .s + 1) ≡ 32 + 8 * c .before .before .before .loop .s = omega arith in
+    (search needs, rw e (none-join (c .before .before .before .loop .inv .1) (firstIn-none (c .before .first-in-entry .ensures) (c .if1 .left))))
+
+mul-result : tie.Need-mul-result Inv-loop μ-loop
+mul-result c = search needs
+
+add-result : tie.Need-add-result Inv-loop μ-loop
+add-result c = search needs
+
+returns-2 : tie.Need-returns-2 Inv-loop μ-loop
+returns-2 c = firstIn-end (search needs) (search needs) (search needs) (c .before .loop .inv .1)
+
+pub first-in-used-spec : {M : Type 1} → statement M
+first-in-used-spec =
+    tie.close
+    (tie.spec
+    Inv-loop
+    μ-loop
+    loop-holds
+    first-in-entry-requires
+    mul-if1
+    add-if1
+    returns
+    add-s
+    loop-less
+    loop-again
+    mul-result
+    add-result
+    returns-2)

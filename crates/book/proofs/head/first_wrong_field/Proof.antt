@@ -1,0 +1,50 @@
+use mathlib.Core.Path.{sym}
+use borrow.Author.Needs.{needs}
+use Rattle.model.proofs.Firsts.{firstIn-join, firstIn-none, firstIn-same, firstIn-wider, none-join}
+use Rattle.book.proofs.Offsets.{field-rest}
+use Rattle.book.proofs.Right.{few-sheets}
+use Rattle.book.proofs.head.first_wrong_field.Statement.{statement}
+use Rattle.book.proofs.head.first_wrong_field.Tie as tie
+
+first-in-front-requires : tie.Need-first-in-front-requires
+first-in-front-requires c κs = search needs
+
+returns : tie.Need-returns
+returns c = firstIn-wider _ (search needs) (c .before .first-in-front .ensures) (c .if1 .taken)
+
+first-in-values-requires : tie.Need-first-in-values-requires
+first-in-values-requires c κs = search needs
+
+returns-2 : tie.Need-returns-2
+returns-2 c = firstIn-join (search needs) (firstIn-none (c .before .before .before .first-in-front .ensures) (c .before .before .if1 .left)) (firstIn-wider _ (search needs) (c .before .first-in-values .ensures) (c .if2 .taken))
+
+first-in-entries-requires : tie.Need-first-in-entries-requires
+first-in-entries-requires c κs = (search needs, few-sheets _ (c .before .before .before .first-in-front .ensures .none .at 5 (search needs) (search needs)))
+
+returns-3 : tie.Need-returns-3
+returns-3 c = firstIn-join (search needs)
+    (none-join (firstIn-none (c .before .before .before .before .before .first-in-front .ensures) (c .before .before .before .before .if1 .left)) (firstIn-none (c .before .before .before .first-in-values .ensures) (c .before .before .if2 .left)))
+    (firstIn-wider _ (search needs) (c .before .first-in-entries .ensures) (c .if3 .taken))
+
+first-set-requires : tie.Need-first-set-requires
+first-set-requires c κs = search needs
+
+returns-4 : tie.Need-returns-4
+returns-4 c = let b = c .before .before .before .before .before .before .before .before .args .h .now in
+    firstIn-join (search needs)
+    (none-join (firstIn-none (c .before .before .before .before .before .before .first-in-front .ensures) (c .before .before .before .before .before .if1 .left))
+    (none-join (firstIn-none (c .before .before .before .before .first-in-values .ensures) (c .before .before .before .if2 .left)) (firstIn-none (c .before .before .first-in-entries .ensures) (c .before .if3 .left))))
+    (firstIn-same (λ i p q. sym (field-rest b i p)) (c .first-set .ensures))
+
+pub first-wrong-field-spec : {M : Type 1} → statement M
+first-wrong-field-spec =
+    tie.close
+    (tie.spec
+    first-in-front-requires
+    returns
+    first-in-values-requires
+    returns-2
+    first-in-entries-requires
+    returns-3
+    first-set-requires
+    returns-4)

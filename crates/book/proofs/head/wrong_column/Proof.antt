@@ -1,0 +1,67 @@
+use Prim.Native.Nat.{_≤_, _<_}
+use native.Mathlib.Omega.{arith}
+use borrow.Author.Needs.{needs}
+use borrow.Author.Tests.{lt-ltb, le-ltb, le-leb, lt-leb}
+use Rattle.book.specs.Head.{columnOf, columnsOf, widthOf, wrongColumn}
+use Rattle.book.proofs.head.wrong_column.Statement.{statement}
+use Rattle.book.proofs.head.wrong_column.Tie as tie
+
+width-requires : tie.Need-width-requires
+width-requires c κs = search needs
+
+columns-requires : tie.Need-columns-requires
+columns-requires c κs = search needs
+
+column-requires : tie.Need-column-requires
+column-requires c κs = search needs
+
+returns : tie.Need-returns
+unfolding wrongColumn
+returns c = let k = c .before .before .before .before .before .before .args in
+    let p : k .j < widthOf (k .h .now) (k .s) = omega arith in
+    let q : columnsOf (k .h .now) ≤ columnOf (k .h .now) (k .s) (k .j) = omega arith in
+    rw (lt-ltb _ _ p, le-leb _ _ q)
+
+not-rising-requires : tie.Need-not-rising-requires
+not-rising-requires c κs = search needs
+
+returns-2 : tie.Need-returns-2
+unfolding wrongColumn
+returns-2 c = let k = c .before .before .before .before .before .before .before .args in
+    let p : k .j < widthOf (k .h .now) (k .s) = omega arith in
+    let q : columnOf (k .h .now) (k .s) (k .j) < columnsOf (k .h .now) = omega arith in
+    rw (lt-ltb _ _ p, lt-leb _ _ q) (c .not-rising .ensures)
+
+mul-set-at : tie.Need-mul-set-at
+mul-set-at c = search needs
+
+add-set-at : tie.Need-add-set-at
+add-set-at c = search needs
+
+add-set-at-2 : tie.Need-add-set-at-2
+add-set-at-2 c = search needs
+
+set-at-requires : tie.Need-set-at-requires
+set-at-requires c κs = search needs
+
+returns-3 : tie.Need-returns-3
+unfolding wrongColumn
+returns-3 c = let k = c .before .before .before .before .args in
+    let p : widthOf (k .h .now) (k .s) ≤ k .j = omega arith in
+    rw (le-ltb _ _ p) (c .set-at .ensures)
+
+pub wrong-column-spec : {M : Type 1} → statement M
+wrong-column-spec =
+    tie.close
+    (tie.spec
+    width-requires
+    columns-requires
+    column-requires
+    returns
+    not-rising-requires
+    returns-2
+    mul-set-at
+    add-set-at
+    add-set-at-2
+    set-at-requires
+    returns-3)

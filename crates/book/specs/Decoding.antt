@@ -1,0 +1,23 @@
+-- The book that the bytes of an accepted file stand for.
+use mathlib.Core.List.{List}
+use Prim.Native.Nat.{ℕ, _+_}
+use Rattle.model.specs.Tests.{tab}
+use Rattle.model.specs.Books.{Sheet, Book, WellFormed}
+use Rattle.book.specs.Fields.{byteAt}
+use Rattle.book.specs.Head.{columnsOf, sheetsOf, valuesOf, widthOf, columnOf, rowsOf}
+use Rattle.book.specs.Rows.{rowPlace}
+use Rattle.book.specs.Verdicts.{Accepted}
+
+-- "A row is 4 bytes: k values …"
+unfoldable pub rowOf : List ℕ → ℕ → ℕ → List ℕ
+rowOf b s r = tab (widthOf b s) (λ j. byteAt b (rowPlace b s r + j))
+
+unfoldable pub sheetOf : List ℕ → ℕ → Sheet
+sheetOf b s = record { columns = tab (widthOf b s) (columnOf b s); rows = tab (rowsOf b s) (rowOf b s) }
+
+unfoldable pub bookOf : List ℕ → Book
+bookOf b = record { counts = tab (columnsOf b) (valuesOf b); sheets = tab (sheetsOf b) (sheetOf b) }
+
+-- an accepted book decodes to a well-formed one: proved in proofs/Decoded.antt
+abbrev pub AcceptedWellFormed : Type 0
+AcceptedWellFormed = (b : List ℕ) → Accepted b → WellFormed (bookOf b)

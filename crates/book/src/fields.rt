@@ -1,0 +1,78 @@
+// The bytes of a file, and the numbers that they make.
+ghost use mathlib.Core.Path.{_≡_};
+ghost use Prim.Native.Nat.{_+_, _*_, _<_, _≤_};
+ghost use lib.ListN.{length};
+ghost use Rattle.model.specs.Tests.{FirstIn, Finds};
+ghost use Rattle.book.specs.Fields.{byteAt, setAt, outOfRange};
+
+// A byte as an index.
+pub fn wide(x: u8) -> usize
+    ensures { λ r. ⌜ (r ≡ x) × (r < 256) ⌝ }
+{
+    x as usize
+}
+
+// Four bytes, the lowest first, as one number.
+pub fn word_of(a: u8, b: u8, c: u8, d: u8) -> u32
+    ensures { λ r. ⌜ r ≡ a + b * 256 + c * 65536 + d * 16777216 ⌝ }
+{
+    (a as u32) + (b as u32) * 256 + (c as u32) * 65536 + (d as u32) * 16777216
+}
+
+// Whether x is not one of the numbers from lo to hi.
+pub fn out_of_range(x: usize, lo: usize, hi: usize) -> bool
+    ensures { λ r. ⌜ r ≡ outOfRange lo hi x ⌝ }
+{
+    if x < lo {
+        return true;
+    }
+    hi < x
+}
+
+// Whether byte i is not zero.
+pub fn set_at(b: &[u8], i: usize) -> bool
+    requires { ⌜ i < length (now b) ⌝ }
+    ensures { λ r. ⌜ r ≡ setAt (now (b .entry)) i ⌝ }
+{
+    b[i] != 0
+}
+
+// Whether a byte from a on and below e is not zero. It looks at all of them, so that the compiler takes many at once.
+pub fn any_set(b: &[u8], a: usize, e: usize) -> bool
+    requires { ⌜ (a ≤ e) × (e ≤ length (now b)) ⌝ }
+    ensures { λ r. ⌜ Finds (setAt (now (b .entry))) a e r ⌝ }
+{
+    let mut x: u8 = 0;
+    let mut i = a;
+    while i < e {
+        x = x | b[i];
+        i += 1;
+    }
+    x != 0
+}
+
+// The first byte from a on and below e that is not zero, or e, one by one.
+fn seek_set(b: &[u8], a: usize, e: usize) -> usize
+    requires { ⌜ (a ≤ e) × (e ≤ length (now b)) ⌝ }
+    ensures { λ r. ⌜ FirstIn (setAt (now (b .entry))) a e r ⌝ }
+{
+    let mut i = a;
+    while i < e {
+        if set_at(b, i) {
+            return i;
+        }
+        i += 1;
+    }
+    i
+}
+
+// The first byte from a on and below e that is not zero, or e: looked for only where there is one.
+pub fn first_set(b: &[u8], a: usize, e: usize) -> usize
+    requires { ⌜ (a ≤ e) × (e ≤ length (now b)) ⌝ }
+    ensures { λ r. ⌜ FirstIn (setAt (now (b .entry))) a e r ⌝ }
+{
+    if any_set(b, a, e) {
+        return seek_set(b, a, e);
+    }
+    e
+}

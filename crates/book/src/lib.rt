@@ -1,0 +1,55 @@
+// The format FGB1: the bytes of a fitting book, checked or refused with a number and a place.
+//
+// Promise: `check` returns `checkResult` of the bytes (specs/Verdicts.antt), for every byte string; an accepted book stands for a well-formed
+// one (specs/Decoding.antt). Each field of the head and each kind of fault has a definition and a function of its own.
+//
+//   fields   the numbers that bytes make
+//   blocks   the 512-byte blocks and their checks
+//   head     block 0: each field and what it must be
+//   rows     the sheets' blocks: how many, and the first with a wrong byte
+pub mod blocks;
+pub mod fields;
+pub mod head;
+pub mod rows;
+
+use crate::blocks::*;
+use crate::head::*;
+use crate::rows::*;
+ghost use mathlib.Core.Path.{_≡_};
+ghost use Prim.Native.Nat.{_<_};
+ghost use Rattle.book.specs.Verdicts.{checkResult, refused};
+
+// A refusal and its place as one number.
+pub fn refusal(n: u64, place: usize) -> u64
+    requires { ⌜ (n < 65536) × (place < 65536) ⌝ }
+    ensures { λ r. ⌜ r ≡ refused n place ⌝ }
+{
+    n * 65536 + (place as u64)
+}
+
+// Checks a book: its refusal and place as one number, the lowest refusal that applies, or C × 16 + S.
+pub fn check(book: &[u8]) -> u64
+    ensures { λ r. ⌜ r ≡ checkResult (now (book .entry)) ⌝ }
+{
+    if wrong_length(book) {
+        return refusal(1, 0);
+    }
+    let blocks = book.len() / 512;
+    let n = first_wrong_check(book, blocks);
+    if n < blocks {
+        return refusal(2, n);
+    }
+    let i = first_wrong_field(book);
+    if i < 508 {
+        return refusal(3, i);
+    }
+    let needed = first_block(book, sheets(book));
+    if needed != blocks {
+        return refusal(4, needed);
+    }
+    let row = fault_block(book);
+    if row != 0 {
+        return refusal(5, row);
+    }
+    (columns(book) as u64) * 16 + (sheets(book) as u64)
+}

@@ -1,0 +1,49 @@
+//! The proved library against the independent version of document 01.
+//!
+//! [`write()`] turns a described [`Book`] into bytes with right checks; [`Region`] and [`Damage`]
+//! spoil them; [`Case`] is one seeded input; [`agreed`] compares the two answers. The tests of this
+//! crate are the comparison itself.
+
+mod books;
+mod case;
+mod damage;
+mod random;
+mod region;
+mod tally;
+mod write;
+
+pub use books::{any_book, harbour, regular, tiny, BLOCK_EDGES};
+pub use case::{Case, Hit, Mend, Story};
+pub use damage::Damage;
+pub use random::Random;
+pub use reference::{Book, Sheet};
+pub use region::Region;
+pub use tally::{Outcomes, Places};
+pub use write::{mend, write, BLOCK, LONGEST, ROWS_OF_A_BLOCK};
+
+/// The number that the library and the reference both give; they must give the same.
+pub fn agreed(book: &[u8]) -> u64 {
+    let library = fitting::check_number(book);
+    let reference = reference::check(book);
+    assert!(
+        library == reference,
+        "on {} bytes the library gives {}, the reference {}",
+        book.len(),
+        spelled(library),
+        spelled(reference)
+    );
+    library
+}
+
+/// refusal × 65,536 + place
+pub fn refused(refusal: u64, place: usize) -> u64 {
+    refusal * 65_536 + place as u64
+}
+
+/// A number as words, for messages.
+pub fn spelled(number: u64) -> String {
+    match fitting::Refusal::from_number(number) {
+        None => format!("accepted {number}"),
+        Some(refusal) => format!("refusal {} place {}", refusal.number(), refusal.place()),
+    }
+}

@@ -1,0 +1,131 @@
+//! The library reads only the bytes that it is lent, and writes none.
+
+#![allow(unsafe_code)]
+#![cfg(all(target_os = "linux", target_arch = "x86_64"))]
+
+use conformance::{harbour, regular, write, Case};
+use std::ffi::{c_int, c_void};
+use std::ptr;
+
+const PAGE: usize = 4_096;
+const NOTHING: c_int = 0;
+const READ: c_int = 1;
+const READ_AND_WRITE: c_int = 3;
+const PRIVATE_AND_ANONYMOUS: c_int = 0x22;
+
+unsafe extern "C" {
+    fn mmap(
+        at: *mut c_void,
+        len: usize,
+        may: c_int,
+        kind: c_int,
+        file: c_int,
+        from: i64,
+    ) -> *mut c_void;
+    fn mprotect(at: *mut c_void, len: usize, may: c_int) -> c_int;
+    fn munmap(at: *mut c_void, len: usize) -> c_int;
+}
+
+/// Memory between two pages that nobody may touch: a step outside ends the process.
+struct Guarded {
+    start: *mut u8,
+    pages: usize,
+}
+
+impl Guarded {
+    fn new(pages: usize) -> Self {
+        let len = (pages + 2) * PAGE;
+        // SAFETY: a fresh mapping of its own, at an address that the system chooses.
+        let start = unsafe { mmap(ptr::null_mut(), len, NOTHING, PRIVATE_AND_ANONYMOUS, -1, 0) };
+        assert_ne!(start as isize, -1, "no memory");
+        let start = start.cast::<u8>();
+        Self { start, pages }
+    }
+
+    fn middle(&self) -> *mut u8 {
+        self.start.wrapping_add(PAGE)
+    }
+
+    fn protect(&self, may: c_int) {
+        // SAFETY: the middle pages are this mapping's own, and no slice of them is alive here.
+        let failed = unsafe { mprotect(self.middle().cast(), self.pages * PAGE, may) };
+        assert_eq!(failed, 0);
+    }
+
+    /// The library's number for a book that lies at the very start, or else at the very end, of
+    /// the middle pages, while they can only be read.
+    fn check(&self, book: &[u8], at_start: bool) -> u64 {
+        let room = self.pages * PAGE - book.len();
+        let place = self.middle().wrapping_add(if at_start { 0 } else { room });
+        self.protect(READ_AND_WRITE);
+        // SAFETY: the place has room for the book and may be written now.
+        unsafe { ptr::copy_nonoverlapping(book.as_ptr(), place, book.len()) };
+        self.protect(READ);
+        // SAFETY: the bytes were just written, can be read, and stay as they are meanwhile.
+        let lent = unsafe { std::slice::from_raw_parts(place, book.len()) };
+        let number = fitting::check_number(lent);
+        assert_eq!(lent, book);
+        number
+    }
+}
+
+impl Drop for Guarded {
+    fn drop(&mut self) {
+        // SAFETY: the whole mapping, which nothing points to any more.
+        unsafe { munmap(self.start.cast(), (self.pages + 2) * PAGE) };
+    }
+}
+
+#[test]
+fn no_step_outside_of_any_length() {
+    let memory = Guarded::new(5);
+    let mut bytes = write(&regular(16, 32, 8, 508, 4));
+    bytes.resize(5 * PAGE, 0);
+    for length in (0..=bytes.len()).filter(|length| length % 512 < 5 || length % 512 > 507) {
+        for at_start in [true, false] {
+            let book = &bytes[..length];
+            assert_eq!(memory.check(book, at_start), reference::check(book));
+        }
+    }
+}
+
+#[test]
+fn no_step_outside_of_seeded_books() {
+    let memory = Guarded::new(5);
+    for seed in 0..10_000 {
+        let book = Case::new(seed).bytes;
+        for at_start in [true, false] {
+            assert_eq!(memory.check(&book, at_start), reference::check(&book));
+        }
+    }
+}
+
+#[test]
+fn nothing_around_the_book_matters() {
+    let books = [write(&harbour()), write(&regular(16, 32, 8, 508, 4))];
+    for book in &books {
+        let expected = reference::check(book);
+        for offset in 0..64 {
+            for around in [0x00, 0x01, 0xFF] {
+                let mut memory = vec![around; book.len() + 128];
+                memory[offset..offset + book.len()].copy_from_slice(book);
+                let before = memory.clone();
+                let number = fitting::check_number(&memory[offset..offset + book.len()]);
+                assert_eq!(number, expected, "offset {offset}");
+                assert_eq!(memory, before, "offset {offset}");
+            }
+        }
+    }
+}
+
+#[test]
+fn the_same_bytes_give_the_same_number() {
+    for seed in 0..2_000 {
+        let book: Box<[u8]> = Case::new(seed).bytes.into();
+        let copy = book.clone();
+        let number = fitting::check_number(&book);
+        assert_eq!(book, copy);
+        assert_eq!(fitting::check_number(&book), number);
+        assert_eq!(fitting::check_number(&copy), number);
+    }
+}

@@ -1,0 +1,155 @@
+//! Why a book is refused, and where.
+
+use std::error::Error;
+use std::fmt;
+
+/// The refusal number is above the low 16 bits, the place is in them.
+const PLACES: u64 = 65_536;
+
+/// Why a book is refused: the lowest of the causes that apply, with the first place of it.
+///
+/// ```
+/// use fitting::Refusal;
+///
+/// let refusal = fitting::check(&[0; 512]).unwrap_err();
+/// assert_eq!(refusal, Refusal::Check { block: 0 });
+/// assert_eq!((refusal.number(), refusal.place()), (2, 0));
+/// assert_eq!(refusal.to_string(), "refusal 2: the check of block 0 is wrong");
+/// ```
+#[derive(Clone, Copy, Debug, PartialEq, Eq, Hash)]
+#[non_exhaustive]
+pub enum Refusal {
+    /// 1: the length isn't a multiple of 512 from 512 to 16,896.
+    Length,
+    /// 2: a check is wrong.
+    Check {
+        /// The lowest block whose check is wrong; the head is block 0.
+        block: u16,
+    },
+    /// 3: a field of the head is wrong.
+    Head {
+        /// The offset of the first wrong field.
+        offset: u16,
+    },
+    /// 4: the blocks aren't 1 plus those of the sheets.
+    Blocks {
+        /// The number of blocks that the book needs by its head.
+        needed: u16,
+    },
+    /// 5: a row value is too large, or a byte that must be zero isn't.
+    Row {
+        /// The first such block; the head is block 0.
+        block: u16,
+    },
+    /// A refusal that has no name here. The check of a book never gives one.
+    Other {
+        /// The refusal number.
+        number: u64,
+        /// The place.
+        place: u16,
+    },
+}
+
+impl Refusal {
+    /// Reads the library's number; `None` if it is an accepted figure.
+    ///
+    /// ```
+    /// use fitting::Refusal;
+    ///
+    /// assert_eq!(Refusal::from_number(50), None);
+    /// assert_eq!(Refusal::from_number(4 * 65_536 + 3), Some(Refusal::Blocks { needed: 3 }));
+    /// ```
+    pub fn from_number(number: u64) -> Option<Self> {
+        let place = (number % PLACES) as u16;
+        match (number / PLACES, place) {
+            (0, _) => None,
+            (1, 0) => Some(Self::Length),
+            (2, block) => Some(Self::Check { block }),
+            (3, offset) => Some(Self::Head { offset }),
+            (4, needed) => Some(Self::Blocks { needed }),
+            (5, block) => Some(Self::Row { block }),
+            (number, place) => Some(Self::Other { number, place }),
+        }
+    }
+
+    /// The refusal number: 1 to 5 for a book.
+    pub fn number(&self) -> u64 {
+        match *self {
+            Self::Length => 1,
+            Self::Check { .. } => 2,
+            Self::Head { .. } => 3,
+            Self::Blocks { .. } => 4,
+            Self::Row { .. } => 5,
+            Self::Other { number, .. } => number,
+        }
+    }
+
+    /// The place: a block, an offset in the head or a number of blocks, by the kind of refusal.
+    pub fn place(&self) -> u16 {
+        match *self {
+            Self::Length => 0,
+            Self::Check { block } | Self::Row { block } => block,
+            Self::Head { offset } => offset,
+            Self::Blocks { needed } => needed,
+            Self::Other { place, .. } => place,
+        }
+    }
+}
+
+impl fmt::Display for Refusal {
+    fn fmt(&self, f: &mut fmt::Formatter<'_>) -> fmt::Result {
+        write!(f, "refusal {}: ", self.number())?;
+        match self {
+            Self::Length => write!(f, "the length isn't a multiple of 512 from 512 to 16,896"),
+            Self::Check { block } => write!(f, "the check of block {block} is wrong"),
+            Self::Head { offset } => write!(f, "the head field at byte {offset} is wrong"),
+            Self::Blocks { needed } => write!(f, "the blocks aren't the {needed} needed"),
+            Self::Row { block } => write!(
+                f,
+                "in block {block} a row value is too large or a byte that must be zero isn't"
+            ),
+            Self::Other { place, .. } => write!(f, "place {place}"),
+        }
+    }
+}
+
+impl Error for Refusal {}
+
+#[cfg(test)]
+mod tests {
+    use super::*;
+
+    #[test]
+    fn every_number_reads_back() {
+        for number in (0..=12).chain([1 << 16, u64::MAX / PLACES]) {
+            for place in [0, 1, 32, 33, 507, 65_535] {
+                let refusal = Refusal::from_number(number * PLACES + place);
+                let read = refusal.map(|refusal| (refusal.number(), u64::from(refusal.place())));
+                assert_eq!(read, (number > 0).then_some((number, place)));
+            }
+        }
+    }
+
+    #[test]
+    fn only_unnamed_numbers_are_other() {
+        for (number, place, named) in [(1, 0, true), (1, 1, false), (5, 9, true), (6, 0, false)] {
+            let refusal = Refusal::from_number(number * PLACES + place).unwrap();
+            assert_eq!(!matches!(refusal, Refusal::Other { .. }), named);
+        }
+    }
+
+    #[test]
+    fn every_refusal_has_its_sentence() {
+        let sentence = |number| Refusal::from_number(number).unwrap().to_string();
+        let length = "refusal 1: the length isn't a multiple of 512 from 512 to 16,896";
+        assert_eq!(sentence(PLACES), length);
+        let head = "refusal 3: the head field at byte 30 is wrong";
+        assert_eq!(sentence(3 * PLACES + 30), head);
+        let blocks = "refusal 4: the blocks aren't the 33 needed";
+        assert_eq!(sentence(4 * PLACES + 33), blocks);
+        let row =
+            "refusal 5: in block 7 a row value is too large or a byte that must be zero isn't";
+        assert_eq!(sentence(5 * PLACES + 7), row);
+        assert_eq!(sentence(9 * PLACES + 2), "refusal 9: place 2");
+    }
+}

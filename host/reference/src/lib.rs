@@ -1,0 +1,142 @@
+//! An independent version of the book check, written from document 01 alone.
+//!
+//! It is meant to be read beside that document: each piece stands under the sentence that it
+//! states. Where slow is plainer it is slow, and it shares nothing with any other crate.
+
+mod book;
+mod head;
+#[cfg(test)]
+mod tests;
+
+pub use book::{decode, Book, Sheet};
+
+/// "A book is 1 to 33 blocks of 512 bytes."
+const BLOCK: usize = 512;
+
+/// "Bytes 508 to 511 of block b are its check": a block holds 127 rows of 4 bytes before it.
+const ROWS_OF_A_BLOCK: usize = 127;
+
+/// "Each call returns one 64-bit number: refusal × 65,536 + place, or the accepted figure."
+pub fn check(book: &[u8]) -> u64 {
+    match refusal(book) {
+        Some((number, place)) => number * 65_536 + place as u64,
+        None => accepted_figure(book),
+    }
+}
+
+/// "Where several apply, the lowest of these numbers is given." The number and the place.
+fn refusal(book: &[u8]) -> Option<(u64, usize)> {
+    if let Some(place) = wrong_length(book) {
+        return Some((1, place));
+    }
+    if let Some(place) = wrong_check(book) {
+        return Some((2, place));
+    }
+    if let Some(place) = head::first_wrong_field(&book[..BLOCK]) {
+        return Some((3, place));
+    }
+    if let Some(place) = wrong_block_count(book) {
+        return Some((4, place));
+    }
+    if let Some(place) = wrong_row(book) {
+        return Some((5, place));
+    }
+    None
+}
+
+/// "Accepted: C × 16 + S."
+fn accepted_figure(book: &[u8]) -> u64 {
+    head::columns(book) as u64 * 16 + head::sheets(book) as u64
+}
+
+/// "1 if the length isn't a multiple of 512 from 512 to 16,896, place 0"
+fn wrong_length(book: &[u8]) -> Option<usize> {
+    let length = book.len();
+    let right = length.is_multiple_of(512) && (512..=16_896).contains(&length);
+    if right {
+        None
+    } else {
+        Some(0)
+    }
+}
+
+/// "2 if a check is wrong, place the lowest such block"
+fn wrong_check(book: &[u8]) -> Option<usize> {
+    for b in 0..book.len() / BLOCK {
+        let block = &book[b * BLOCK..(b + 1) * BLOCK];
+        if number_at(block, 508) != right_check(block, b) {
+            return Some(b);
+        }
+    }
+    None
+}
+
+/// "Bytes 508 to 511 of block b are its check: the sum of the 127 32-bit numbers in bytes 0 to
+/// 507, plus b + 1. The sum leaves out every carry past 32 bits."
+fn right_check(block: &[u8], b: usize) -> u64 {
+    let mut sum = 0;
+    for i in 0..127 {
+        sum += number_at(block, 4 * i);
+    }
+    sum += b as u64 + 1;
+    sum % 4_294_967_296
+}
+
+/// "fields of several bytes have the lowest byte first": the 32-bit number at this offset.
+fn number_at(block: &[u8], offset: usize) -> u64 {
+    let byte = |i: usize| u64::from(block[offset + i]);
+    byte(0) + 256 * byte(1) + 65_536 * byte(2) + 16_777_216 * byte(3)
+}
+
+/// "4 if the blocks aren't 1 plus those of the sheets, place the number needed"
+fn wrong_block_count(book: &[u8]) -> Option<usize> {
+    let mut needed = 1;
+    for s in 0..head::sheets(book) {
+        needed += blocks_of(&head::entry(book, s));
+    }
+    if book.len() / BLOCK == needed {
+        None
+    } else {
+        Some(needed)
+    }
+}
+
+/// "Each sheet in turn then has as many blocks as n / 127 rounded up."
+fn blocks_of(entry: &head::Entry) -> usize {
+    entry.rows.div_ceil(ROWS_OF_A_BLOCK)
+}
+
+/// "5 if a row value is too large or a byte that must be zero isn't, place the first such block"
+fn wrong_row(book: &[u8]) -> Option<usize> {
+    let mut block = 1;
+    for s in 0..head::sheets(book) {
+        let entry = head::entry(book, s);
+        for sheet_block in 0..blocks_of(&entry) {
+            for r in 0..ROWS_OF_A_BLOCK {
+                let start = block * BLOCK + 4 * r;
+                let row = &book[start..start + 4];
+                let used = sheet_block * ROWS_OF_A_BLOCK + r < entry.rows;
+                if !right_row(book, &entry, used, row) {
+                    return Some(block);
+                }
+            }
+            block += 1;
+        }
+    }
+    None
+}
+
+/// "A row is 4 bytes: k values, each below its column's V, then zeros. Unused rows are zero."
+fn right_row(head: &[u8], entry: &head::Entry, used: bool, row: &[u8]) -> bool {
+    for (i, &byte) in row.iter().enumerate() {
+        let right = if used && i < entry.width {
+            usize::from(byte) < head::values(head, entry.columns[i])
+        } else {
+            byte == 0
+        };
+        if !right {
+            return false;
+        }
+    }
+    true
+}

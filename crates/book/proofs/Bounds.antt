@@ -1,102 +1,23 @@
--- A row as one 32-bit number beside its bounds, and what a look at a block finds. Assumes nothing.
-use mathlib.Core.Path.{_≡_, refl, sym, ap, _∙_}
+-- What a look at a block finds, beside the bounds of its bytes. Assumes nothing.
+use mathlib.Core.Path.{_≡_, refl, sym, _∙_}
 use mathlib.Core.Bool.{Bool, true, false, _||_}
 use mathlib.Core.Logic.{_⊎_, inl, inr}
 use mathlib.Core.List.{List}
-use Prim.Native.Nat.{ℕ, zero, suc, _+_, _*_, _-_, _/_, _%_, _^_, _≤_, _<_}
+use Prim.Native.Nat.{ℕ, zero, suc, _+_, _*_, _-_, _/_, _%_, _≤_, _<_}
 use native.Mathlib.Nat.{mod-lt}
 use native.Mathlib.Omega.{arith}
-use lib.Dec.{eqb, ltb, leb}
-use lib.Bits.{bitOr}
+use lib.Dec.{ltb, leb}
 use lib.ListN.{length}
-use borrow.Author.Tests.{lt-ltb, le-ltb, le-leb, lt-leb}
+use borrow.Author.Tests.{eqb-true, lt-ltb, le-ltb, lt-leb, not-false}
 use Rattle.model.specs.Choices.{first}
-use Rattle.model.specs.Masks.{bit}
-use Rattle.model.specs.Tests.{Finds, sum}
+use Rattle.model.specs.Tests.{Finds, NoneIn}
 use Rattle.model.proofs.Firsts.{finds-any, finds-fours, finds-same}
-use Rattle.model.proofs.Masks.{bit-or}
-use Rattle.model.proofs.Tests.{below, either, or-r, or-swap}
-use Rattle.book.specs.Blocks.{blockAt, word}
+use Rattle.model.proofs.Tests.{below, either}
+use Rattle.book.specs.Blocks.{blockAt}
 use Rattle.book.specs.Fields.{byteAt, setAt}
 use Rattle.book.specs.Head.{rowsOf}
-use Rattle.book.specs.Rows.{RowBounds, anyHigh, boundOf, firstBlock, fourth, overRow, placeBound, slackOf, usedRows, wrongBlock, wrongByte, wrongIn}
+use Rattle.book.specs.Rows.{RowBounds, SmallBounds, boundOf, firstBlock, fourth, overBounds, placeBound, usedRows, wrongBlock, wrongByte, wrongIn}
 use Rattle.book.proofs.Numbers.{block-byte, set-leb}
-
--- ---- the highest bits of the four bytes of a number
--- bit v of m is the highest of the byte p where p's highest bit ends m / 2 ^ v
-high : (v m p t : ℕ) → m / 2 ^ v ≡ t * 2 + p / 128 → p < 256 → bit v m ≡ leb 128 p
-unfolding bit
-high v m p t h l = go (below p 128)
-  where
-    go : (p < 128) ⊎ (128 ≤ p) → eqb (m / 2 ^ v % 2) 1 ≡ leb 128 p
-    go (inl k) = let e : m / 2 ^ v % 2 ≡ 0 = omega arith in rw (e, lt-leb 128 p k)
-    go (inr k) = let e : m / 2 ^ v % 2 ≡ 1 = omega arith in rw (e, le-leb 128 p k)
-
-pub high-bytes : (p q r s : ℕ) → p < 256 → q < 256 → r < 256 → s < 256
-    → anyHigh (p + q * 256 + r * 65536 + s * 16777216) ≡ (leb 128 p || (leb 128 q || (leb 128 r || leb 128 s)))
-unfolding anyHigh
-high-bytes p q r s hp hq hr hs =
-    let m = p + q * 256 + r * 65536 + s * 16777216 in
-    rw (
-      high 7 m p (q + r * 256 + s * 65536) (omega arith) hp,
-      high 15 m q (r + s * 256) (omega arith) hq,
-      high 23 m r s (omega arith) hr,
-      high 31 m s 0 (omega arith) hs,
-    )
-
-pub high-or : (x y : ℕ) → anyHigh (bitOr x y) ≡ (anyHigh x || anyHigh y)
-unfolding anyHigh
-high-or x y =
-    rw (bit-or 7 x y, bit-or 15 x y, bit-or 23 x y, bit-or 31 x y)
-    (rw (or-swap (bit 23 x) (bit 23 y) (bit 31 x) (bit 31 y), or-swap (bit 15 x) (bit 15 y) (bit 23 x || bit 31 x) (bit 23 y || bit 31 y))
-    (or-swap (bit 7 x) (bit 7 y) (bit 15 x || (bit 23 x || bit 31 x)) (bit 15 y || (bit 23 y || bit 31 y))))
-
--- one row more is looked at
-pub over-step : (block : List ℕ) (k i seen row sum : ℕ) → row ≡ word block i → sum ≡ (row + k) % 2 ^ 32
-    → anyHigh (bitOr seen (bitOr row sum)) ≡ (anyHigh seen || overRow k block i)
-unfolding overRow
-over-step block k i seen row sum hr hs = rw (high-or seen (bitOr row sum), high-or row sum, hs, hr)
-
--- ---- a row beside its bounds
--- the slack brings a byte to 128 or more exactly when it is not below its bound
-reach : (w p : ℕ) → w ≤ 128 → leb 128 (p + (128 - w)) ≡ leb w p
-reach w p h = go (below p w)
-  where
-    go : (p < w) ⊎ (w ≤ p) → leb 128 (p + (128 - w)) ≡ leb w p
-    go (inl l) = lt-leb 128 (p + (128 - w)) (omega arith) ∙ sym (lt-leb w p l)
-    go (inr l) = le-leb 128 (p + (128 - w)) (omega arith) ∙ sym (le-leb w p l)
-
-module _ (w x y z p q r s : ℕ) (hw : w ≤ 128) (hx : x ≤ 128) (hy : y ≤ 128) (hz : z ≤ 128) (hp : p < 256) (hq : q < 256) (hr : r < 256) (hs : s < 256) where
-  -- the row with the slack added shows a highest bit; a byte is not below its bound
-  abbrev raised : Bool
-  raised = anyHigh ((p + q * 256 + r * 65536 + s * 16777216 + slackOf w x y z) % 2 ^ 32)
-
-  abbrev over : Bool
-  over = leb w p || (leb x q || (leb y r || leb z s))
-
-  -- no byte is 128 or more: none carries into the next
-  low : p < 128 → q < 128 → r < 128 → s < 128 → raised ≡ over
-  low lp lq lr ls =
-      let e : (p + q * 256 + r * 65536 + s * 16777216 + slackOf w x y z) % 2 ^ 32
-      ≡ p + (128 - w) + (q + (128 - x)) * 256 + (r + (128 - y)) * 65536 + (s + (128 - z)) * 16777216 = omega arith in
-      ap anyHigh e
-      ∙ high-bytes (p + (128 - w)) (q + (128 - x)) (r + (128 - y)) (s + (128 - z)) (omega arith) (omega arith) (omega arith) (omega arith)
-      ∙ rw (reach w p hw, reach x q hx, reach y r hy, reach z s hz)
-
-  pub over-bytes : (anyHigh (p + q * 256 + r * 65536 + s * 16777216) || anyHigh ((p + q * 256 + r * 65536 + s * 16777216 + slackOf w x y z) % 2 ^ 32))
-      ≡ (leb w p || (leb x q || (leb y r || leb z s)))
-  over-bytes = rw (high-bytes p q r s hp hq hr hs) (go (below p 128) (below q 128) (below r 128) (below s 128))
-    where
-      go : (p < 128) ⊎ (128 ≤ p) → (q < 128) ⊎ (128 ≤ q) → (r < 128) ⊎ (128 ≤ r) → (s < 128) ⊎ (128 ≤ s)
-          → ((leb 128 p || (leb 128 q || (leb 128 r || leb 128 s))) || raised) ≡ over
-      go (inr a) b c d = rw (le-leb 128 p a, le-leb w p (omega arith))
-      go (inl a) (inr b) c d = rw (lt-leb 128 p a, le-leb 128 q b, le-leb x q (omega arith)) (sym (or-r (leb w p) _ refl))
-      go (inl a) (inl b) (inr c) d =
-          rw (lt-leb 128 p a, lt-leb 128 q b, le-leb 128 r c, le-leb y r (omega arith)) (sym (or-r (leb w p) _ (or-r (leb x q) _ refl)))
-      go (inl a) (inl b) (inl c) (inr d) =
-          rw (lt-leb 128 p a, lt-leb 128 q b, lt-leb 128 r c, le-leb 128 s d, le-leb z s (omega arith))
-          (sym (or-r (leb w p) _ (or-r (leb x q) _ (or-r (leb y r) _ refl))))
-      go (inl a) (inl b) (inl c) (inl d) = rw (lt-leb 128 p a, lt-leb 128 q b, lt-leb 128 r c, lt-leb 128 s d) (low a b c d)
 
 -- ---- a block
 -- a byte of the used rows, and one past them
@@ -108,26 +29,38 @@ pub past-used : (w x y z n i : ℕ) (block : List ℕ) → n ≤ i → wrongIn w
 unfolding wrongIn
 past-used w x y z n i block p = rw (le-ltb i n p)
 
-module _ (w x y z n : ℕ) (block : List ℕ) (bytes : (i : ℕ) → byteAt block i < 256) (small : (w ≤ 128) × (x ≤ 128) × (y ≤ 128) × (z ≤ 128)) where
-  -- a row that is over its bounds has a wrong byte
-  over-row : (r : ℕ) → r < n
-      → overRow (slackOf w x y z) block r
-      ≡ (wrongIn w x y z block (4 * n) (4 * r)
-      || (wrongIn w x y z block (4 * n) (4 * r + 1)
-      || (wrongIn w x y z block (4 * n) (4 * r + 2) || wrongIn w x y z block (4 * n) (4 * r + 3))))
-  unfolding overRow
-  over-row r p =
-      over-bytes w x y z (byteAt block (4 * r)) (byteAt block (4 * r + 1)) (byteAt block (4 * r + 2)) (byteAt block (4 * r + 3))
-      (small .0) (small .1) (small .2) (small .3) (bytes _) (bytes _) (bytes _) (bytes _)
-      ∙ rw (
-        in-used w x y z (4 * n) 0 (4 * r) block (omega arith) (omega arith),
-        in-used w x y z (4 * n) 1 (4 * r + 1) block (omega arith) (omega arith),
-        in-used w x y z (4 * n) 2 (4 * r + 2) block (omega arith) (omega arith),
-        in-used w x y z (4 * n) 3 (4 * r + 3) block (omega arith) (omega arith),
-      )
+-- the unused rows are zero, so a wrong byte is one of a row that is over its bounds
+module _ (w x y z n : ℕ) (block : List ℕ) (s : SmallBounds w x y z) (zero-rest : NoneIn (setAt block) (4 * n) 508) where
+  -- an unused byte
+  unused : (v i : ℕ) → 1 ≤ v → 4 * n ≤ i → i < 508 → (leb v (byteAt block i) ≡ false) × (wrongIn w x y z block (4 * n) i ≡ false)
+  unused v i h p q =
+      let e : setAt block i ≡ false = zero-rest .at i p q in
+      let k : byteAt block i ≡ 0 = eqb-true (byteAt block i) 0 (not-false _ e) in
+      (lt-leb v (byteAt block i) (omega arith), past-used w x y z (4 * n) i block p ∙ e)
 
-  pub over-found : {t : Bool} → Finds (overRow (slackOf w x y z) block) 0 n t → Finds (wrongIn w x y z block (4 * n)) 0 (4 * n) t
-  over-found h = finds-fours over-row h
+  byte-same : (j i : ℕ) → 1 ≤ fourth w x y z j → i % 4 ≡ j → i < 508 → leb (fourth w x y z j) (byteAt block i) ≡ wrongIn w x y z block (4 * n) i
+  byte-same j i h e p = go (below i (4 * n))
+    where
+      go : (i < 4 * n) ⊎ (4 * n ≤ i) → leb (fourth w x y z j) (byteAt block i) ≡ wrongIn w x y z block (4 * n) i
+      go (inl l) = sym (in-used w x y z (4 * n) j i block l e)
+      go (inr l) = let u = unused (fourth w x y z j) i h l p in u .0 ∙ sym (u .1)
+
+  pub over-found : {t : Bool} → Finds (overBounds w x y z block) 0 127 t → Finds (wrongIn w x y z block (4 * n)) 0 508 t
+  unfolding overBounds
+  over-found h = finds-fours (λ r p. rows r p) h
+    where
+      rows : (r : ℕ) → r < 127
+          → overBounds w x y z block r
+          ≡ (wrongIn w x y z block (4 * n) (4 * r)
+          || (wrongIn w x y z block (4 * n) (4 * r + 1)
+          || (wrongIn w x y z block (4 * n) (4 * r + 2) || wrongIn w x y z block (4 * n) (4 * r + 3))))
+      rows r p =
+          rw (
+            byte-same 0 (4 * r) (s .some .0) (omega arith) (omega arith),
+            byte-same 1 (4 * r + 1) (s .some .1) (omega arith) (omega arith),
+            byte-same 2 (4 * r + 2) (s .some .2) (omega arith) (omega arith),
+            byte-same 3 (4 * r + 3) (s .some .3) (omega arith) (omega arith),
+          )
 
 -- ---- block q of sheet s
 -- the four bounds of a row

@@ -3,6 +3,7 @@
 pub mod Numbers
 pub mod Offsets
 pub mod Right
+pub mod Words
 pub mod Bounds
 pub mod Faults
 pub mod Results

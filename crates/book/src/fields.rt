@@ -12,6 +12,13 @@ pub fn wide(x: u8) -> usize
     x as usize
 }
 
+// A byte as a 32-bit number.
+pub fn long(x: u8) -> u32
+    ensures { λ r. ⌜ r ≡ x ⌝ }
+{
+    x as u32
+}
+
 // Four bytes, the lowest first, as one number.
 pub fn word_of(a: u8, b: u8, c: u8, d: u8) -> u32
     ensures { λ r. ⌜ r ≡ a + b * 256 + c * 65536 + d * 16777216 ⌝ }

@@ -1,9 +1,10 @@
 // The rows of the sheets: how many blocks they need, and the first block with a wrong byte.
 //
-// Every byte of a row has a bound that it must be below: V at the place of a value, 1 at a byte that must be zero. A used row is looked at
-// as one 32-bit number: 128 less its bound is added to each byte, and a byte that is over its bound then shows in its highest bit.
+// Every byte of a row has a bound that it must be below: V at the place of a value, 1 at a byte that must be zero. Rows are looked at as
+// 32-bit numbers. First all are joined by `|`: where that is below the bounds, every row is. Otherwise 128 less its bound is added to each
+// byte, and one that is not below its bound shows in its highest bit:
 //
-//     row     x0      x1      x2      x3          x < 128 in a right row, so no byte carries into the next
+//     row     x0      x1      x2      x3          each below 128, so none carries into the next
 //     slack   128-w   128-x   128-y   128-z
 //     sum     a highest bit is set exactly where the byte is not below its bound
 use crate::blocks::*;
@@ -13,8 +14,9 @@ ghost use mathlib.Core.Path.{_≡_};
 ghost use Prim.Native.Nat.{ℕ, _+_, _*_, _/_, _%_, _-_, _<_, _≤_};
 ghost use lib.ListN.{length, getD};
 ghost use Rattle.model.specs.Tests.{FirstIn, Finds};
+ghost use Rattle.book.specs.Blocks.{word};
 ghost use Rattle.book.specs.Head.{sheetsOf, RightHead};
-ghost use Rattle.book.specs.Rows.{blocksOf, firstBlock, blocksNeeded, placeBound, wrongBlock, firstFault, blockOf, usedRows, wrongIn, RowBounds, SheetThere, anyHigh, overRow};
+ghost use Rattle.book.specs.Rows.{blocksOf, firstBlock, blocksNeeded, placeBound, wrongBlock, firstFault, blockOf, usedRows, wrongIn, overBounds, RowBounds, SmallBounds, SheetThere, joined, belowBounds, anyHigh, raisedRow};
 
 // The blocks of sheet s.
 pub fn blocks_of(h: &[u8], s: usize) -> usize
@@ -51,7 +53,7 @@ pub struct Bounds {
 // What byte j of a used row of sheet s, one of the S, has to be below.
 fn place_bound(h: &[u8], s: usize, j: usize) -> u8
     requires { ⌜ (512 ≤ length (now h)) × RightHead (now h) × (s < sheetsOf (now h)) × (j < 4) ⌝ }
-    ensures { λ r. ⌜ (r ≡ placeBound (now (h .entry)) s j) × (r ≤ 128) ⌝ }
+    ensures { λ r. ⌜ (r ≡ placeBound (now (h .entry)) s j) × (1 ≤ r) × (r ≤ 128) ⌝ }
 {
     if j < width(h, s) {
         let c = column(h, s, j);
@@ -63,7 +65,7 @@ fn place_bound(h: &[u8], s: usize, j: usize) -> u8
 // The bounds of sheet s, one of the S.
 fn bounds_of(h: &[u8], s: usize) -> Bounds
     requires { ⌜ (512 ≤ length (now h)) × RightHead (now h) × (s < sheetsOf (now h)) ⌝ }
-    ensures { λ r. ⌜ RowBounds (now (h .entry)) s (r .w) (r .x) (r .y) (r .z) ⌝ }
+    ensures { λ r. ⌜ RowBounds (now (h .entry)) s (r .w) (r .x) (r .y) (r .z) × SmallBounds (r .w) (r .x) (r .y) (r .z) ⌝ }
 {
     Bounds {
         w: place_bound(h, s, 0),
@@ -73,49 +75,97 @@ fn bounds_of(h: &[u8], s: usize) -> Bounds
     }
 }
 
-// ---- the first wrong block
+// ---- rows over their bounds. Each loop uses a row once and takes all 127, so that the compiler reads four of them at a time.
 
-// Whether one of the four bytes of x is 128 or more.
-fn any_high(x: u32) -> bool
-    ensures { λ r. ⌜ r ≡ anyHigh x ⌝ }
+// The rows of a block joined by `|`.
+fn joined_rows(b: &[u8]) -> u32
+    requires { ⌜ length (now b) ≡ 512 ⌝ }
+    ensures { λ r. ⌜ r ≡ joined (word (now (b .entry))) 127 ⌝ }
 {
-    if (x >> 7) % 2 == 1 {
-        return true;
+    let mut seen: u32 = 0;
+    let mut i: usize = 0;
+    while i < 127 {
+        let at = 4 * i;
+        seen = seen | word_of(b[at], b[at + 1], b[at + 2], b[at + 3]);
+        i += 1;
     }
-    if (x >> 15) % 2 == 1 {
-        return true;
-    }
-    if (x >> 23) % 2 == 1 {
-        return true;
-    }
-    (x >> 31) % 2 == 1
+    seen
 }
 
-// Whether one of the first n rows of a block is over its bounds. It looks at all of them, so that the compiler takes many at once.
-fn any_over(b: &[u8], k: u32, n: usize) -> bool
-    requires { ⌜ (length (now b) ≡ 512) × (n ≤ 127) ⌝ }
-    ensures { λ r. ⌜ Finds (overRow k (now (b .entry))) 0 n r ⌝ }
+// Whether each byte of v is below its bound.
+fn below_bounds(v: u32, m: Bounds) -> bool
+    ensures { λ r. ⌜ r ≡ belowBounds (m .w) (m .x) (m .y) (m .z) v ⌝ }
+{
+    if v % 256 >= long(m.w) {
+        return false;
+    }
+    if v / 256 % 256 >= long(m.x) {
+        return false;
+    }
+    if v / 65536 % 256 >= long(m.y) {
+        return false;
+    }
+    v / 16777216 < long(m.z)
+}
+
+// Whether one of the four bytes of v is 128 or more.
+fn any_high(v: u32) -> bool
+    ensures { λ r. ⌜ r ≡ anyHigh v ⌝ }
+{
+    if (v >> 7) % 2 == 1 {
+        return true;
+    }
+    if (v >> 15) % 2 == 1 {
+        return true;
+    }
+    if (v >> 23) % 2 == 1 {
+        return true;
+    }
+    (v >> 31) % 2 == 1
+}
+
+// Whether a row of a block has a byte that is 128 or more once k is added.
+fn any_raised(b: &[u8], k: u32) -> bool
+    requires { ⌜ length (now b) ≡ 512 ⌝ }
+    ensures { λ r. ⌜ Finds (raisedRow k (now (b .entry))) 0 127 r ⌝ }
 {
     let mut high: u32 = 0;
     let mut i: usize = 0;
-    while i < n {
+    while i < 127 {
         let at = 4 * i;
-        let row = word_of(b[at], b[at + 1], b[at + 2], b[at + 3]);
-        high = high | (row | std::num::wrapping_add_u32(row, k));
+        high = high
+            | std::num::wrapping_add_u32(word_of(b[at], b[at + 1], b[at + 2], b[at + 3]), k);
         i += 1;
     }
     any_high(high)
 }
 
-// Whether a block has a wrong byte; its first n rows are used.
-fn any_wrong(b: &[u8], m: Bounds, n: usize) -> bool
-    requires { ⌜ (length (now b) ≡ 512) × (n ≤ 127) × (m .w ≤ 128) × (m .x ≤ 128) × (m .y ≤ 128) × (m .z ≤ 128) ⌝ }
-    ensures { λ r. ⌜ Finds (wrongIn (m .w) (m .x) (m .y) (m .z) (now (b .entry)) (4 * n)) 0 508 r ⌝ }
+// Whether a row of a block has a byte that is not below its bound. Where the joined rows are below, so is every row: mostly that is all.
+fn any_over(b: &[u8], m: Bounds) -> bool
+    requires { ⌜ (length (now b) ≡ 512) × SmallBounds (m .w) (m .x) (m .y) (m .z) ⌝ }
+    ensures { λ r. ⌜ Finds (overBounds (m .w) (m .x) (m .y) (m .z) (now (b .entry))) 0 127 r ⌝ }
 {
-    if any_over(b, word_of(128 - m.w, 128 - m.x, 128 - m.y, 128 - m.z), n) {
+    let v = joined_rows(b);
+    if below_bounds(v, m) {
+        return false;
+    }
+    if any_high(v) {
         return true;
     }
-    any_set(b, 4 * n, 508)
+    any_raised(b, word_of(128 - m.w, 128 - m.x, 128 - m.y, 128 - m.z))
+}
+
+// ---- the first wrong block
+
+// Whether a block has a wrong byte; its first n rows are used. Unused rows are zero, and so below every bound.
+fn any_wrong(b: &[u8], m: Bounds, n: usize) -> bool
+    requires { ⌜ (length (now b) ≡ 512) × (n ≤ 127) × SmallBounds (m .w) (m .x) (m .y) (m .z) ⌝ }
+    ensures { λ r. ⌜ Finds (wrongIn (m .w) (m .x) (m .y) (m .z) (now (b .entry)) (4 * n)) 0 508 r ⌝ }
+{
+    if any_set(b, 4 * n, 508) {
+        return true;
+    }
+    any_over(b, m)
 }
 
 // How many rows of block q are used where the sheet has n; some are.
@@ -129,7 +179,7 @@ fn used_rows(n: usize, q: usize) -> usize
 
 // The first wrong block of sheet s, counted from its first, or the number of its blocks. m are its bounds.
 fn first_in_sheet(book: &[u8], m: Bounds, s: usize, first: usize) -> usize
-    requires { ⌜ SheetThere (now book) s × (first ≡ firstBlock (now book) s) × RowBounds (now book) s (m .w) (m .x) (m .y) (m .z) ⌝ }
+    requires { ⌜ SheetThere (now book) s × (first ≡ firstBlock (now book) s) × RowBounds (now book) s (m .w) (m .x) (m .y) (m .z) × SmallBounds (m .w) (m .x) (m .y) (m .z) ⌝ }
     ensures { λ r. ⌜ FirstIn (wrongBlock (now (book .entry)) s) 0 (blocksOf (now (book .entry)) s) r ⌝ }
 {
     let n = rows(book, s);

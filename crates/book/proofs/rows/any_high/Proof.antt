@@ -8,16 +8,16 @@ use Rattle.book.proofs.rows.any_high.Tie as tie
 
 returns : tie.Need-returns
 unfolding anyHigh bit
-returns c = sym (or-l (bit 7 (c .before .args .x)) _ (eq-eqb _ _ (c .if1 .taken)))
+returns c = sym (or-l (bit 7 (c .before .args .v)) _ (eq-eqb _ _ (c .if1 .taken)))
 
 returns-2 : tie.Need-returns-2
 unfolding anyHigh bit
-returns-2 c = let x = c .before .before .args .x in sym (or-r (bit 7 x) _ (or-l (bit 15 x) _ (eq-eqb _ _ (c .if2 .taken))))
+returns-2 c = let v = c .before .before .args .v in sym (or-r (bit 7 v) _ (or-l (bit 15 v) _ (eq-eqb _ _ (c .if2 .taken))))
 
 returns-3 : tie.Need-returns-3
 unfolding anyHigh bit
-returns-3 c = let x = c .before .before .before .args .x in
-    sym (or-r (bit 7 x) _ (or-r (bit 15 x) _ (or-l (bit 23 x) _ (eq-eqb _ _ (c .if3 .taken)))))
+returns-3 c = let v = c .before .before .before .args .v in
+    sym (or-r (bit 7 v) _ (or-r (bit 15 v) _ (or-l (bit 23 v) _ (eq-eqb _ _ (c .if3 .taken)))))
 
 returns-4 : tie.Need-returns-4
 unfolding anyHigh bit

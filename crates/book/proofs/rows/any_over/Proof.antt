@@ -1,92 +1,73 @@
-use mathlib.Core.Path.{_≡_}
-use Prim.Native.Nat.{_-_, _≤_}
-use native.Mathlib.Nat.{le-refl}
+use mathlib.Core.Path.{_≡_, sym, _∙_}
+use mathlib.Core.Bool.{true, false≢true}
 use native.Mathlib.Omega.{arith}
 use borrow.Author.Needs.{needs}
-use Rattle.model.specs.Masks.{bit}
-use Rattle.model.specs.Tests.{Finds}
-use Rattle.model.proofs.Firsts.{finds-empty, finds-more}
-use Rattle.book.specs.Rows.{anyHigh, overRow}
-use Rattle.book.proofs.Bounds.{over-step}
+use Rattle.book.specs.Blocks.{word}
+use Rattle.book.specs.Rows.{belowBounds, joined}
+use Rattle.book.proofs.Words.{high-found, joined-below, raised-found}
 use Rattle.book.proofs.rows.any_over.Statement.{statement}
 use Rattle.book.proofs.rows.any_over.Tie as tie
 
-abbrev Inv-loop : tie.InvT-loop
-Inv-loop b k n high₀ i₀ high i = (i ≤ n) × Finds (overRow k b) 0 i (anyHigh high)
+joined-rows-requires : tie.Need-joined-rows-requires
+joined-rows-requires c κs = search needs
 
-abbrev μ-loop : tie.MeasureT-loop
-μ-loop b k n high₀ i₀ high i = n - i
+below-bounds-requires : tie.Need-below-bounds-requires
+below-bounds-requires c κs = search needs
 
-loop-holds : tie.Need-loop-holds Inv-loop μ-loop
-unfolding anyHigh bit
-loop-holds c = (search needs, finds-empty (le-refl _))
+returns : tie.Need-returns
+returns c = let j = c .before .before in
+    let k = j .before .before in
+    let m = k .args .m in
+    let e : belowBounds (m .w) (m .x) (m .y) (m .z) (joined (word (k .args .b .now)) 127) ≡ true = rw (j .joined-rows .ensures) at (sym (c .before .below-bounds .ensures) ∙ c .if1 .taken) in
+    record { none = λ p. joined-below (k .args .b .now) (λ i. omega (arith, j .before .shared-slice-known .given i)) (m .w) (m .x) (m .y) (m .z) 127 e; some = λ p. absurd (false≢true p) }
 
-mul-at : tie.Need-mul-at Inv-loop μ-loop
-mul-at c = search needs
-
-shared-slice-read-word-of : tie.Need-shared-slice-read-word-of Inv-loop μ-loop
-shared-slice-read-word-of c = search needs
-
-add-word-of : tie.Need-add-word-of Inv-loop μ-loop
-add-word-of c = search needs
-
-shared-slice-read-word-of-2 : tie.Need-shared-slice-read-word-of-2 Inv-loop μ-loop
-shared-slice-read-word-of-2 c = search needs
-
-add-word-of-2 : tie.Need-add-word-of-2 Inv-loop μ-loop
-add-word-of-2 c = search needs
-
-shared-slice-read-word-of-3 : tie.Need-shared-slice-read-word-of-3 Inv-loop μ-loop
-shared-slice-read-word-of-3 c = search needs
-
-add-word-of-3 : tie.Need-add-word-of-3 Inv-loop μ-loop
-add-word-of-3 c = search needs
-
-shared-slice-read-word-of-4 : tie.Need-shared-slice-read-word-of-4 Inv-loop μ-loop
-shared-slice-read-word-of-4 c = search needs
-
-word-of-requires : tie.Need-word-of-requires Inv-loop μ-loop
-word-of-requires c κs = search needs
-
-wrapping-add-u32-requires : tie.Need-wrapping-add-u32-requires Inv-loop μ-loop
-wrapping-add-u32-requires c κs = search needs
-
-add-i : tie.Need-add-i Inv-loop μ-loop
-add-i c = search needs
-
-loop-less : tie.Need-loop-less Inv-loop μ-loop
-loop-less c = search needs
-
-loop-again : tie.Need-loop-again Inv-loop μ-loop
-loop-again c = let l = c .before .before .before .before .before .before .before in
-    let k = l .before .before .args in
-    (search needs, rw (over-step (k .b .now) (k .k) (l .loop .i) _ _ _ (c .before .word-of .ensures) (c .wrapping-add-u32 .ensures)) (finds-more _ (search needs) (l .loop .inv .1)))
-
-any-high-requires : tie.Need-any-high-requires Inv-loop μ-loop
+any-high-requires : tie.Need-any-high-requires
 any-high-requires c κs = search needs
 
-returns : tie.Need-returns Inv-loop μ-loop
-returns c = let e : c .before .before .loop .i ≡ c .before .before .before .before .args .n = omega arith in rw (c .any-high .ensures) (rw e at (c .before .before .loop .inv .1))
+returns-2 : tie.Need-returns-2
+returns-2 c = let j = c .before .before .before .before in
+    let k = j .before .before in
+    let m = k .args .m in
+    high-found (k .args .b .now) (λ i. omega (arith, j .before .shared-slice-known .given i)) (m .w) (m .x) (m .y) (m .z) 127 (k .pre .1 .few) (rw (j .joined-rows .ensures) at (sym (c .before .any-high .ensures) ∙ c .if2 .taken))
+
+sub-word-of : tie.Need-sub-word-of
+sub-word-of c = search needs
+
+sub-word-of-2 : tie.Need-sub-word-of-2
+sub-word-of-2 c = search needs
+
+sub-word-of-3 : tie.Need-sub-word-of-3
+sub-word-of-3 c = search needs
+
+sub-word-of-4 : tie.Need-sub-word-of-4
+sub-word-of-4 c = search needs
+
+word-of-requires : tie.Need-word-of-requires
+word-of-requires c κs = search needs
+
+any-raised-requires : tie.Need-any-raised-requires
+any-raised-requires c κs = search needs
+
+returns-3 : tie.Need-returns-3
+returns-3 c = let h = c .before .before .before .before .before .before .before in
+    let j = h .before .before .before in
+    let k = j .before .before in
+    let m = k .args .m in
+    raised-found (k .args .b .now) (λ i. omega (arith, j .before .shared-slice-known .given i)) (m .w) (m .x) (m .y) (m .z) 127 (k .pre .1 .few) (rw (j .joined-rows .ensures) at (sym (h .any-high .ensures) ∙ c .before .before .before .before .before .before .if2 .left)) (rw (c .before .word-of .ensures) at (c .any-raised .ensures))
 
 pub any-over-spec : {M : Type 1} → statement M
 any-over-spec =
     tie.close
     (tie.spec
-    Inv-loop
-    μ-loop
-    loop-holds
-    mul-at
-    shared-slice-read-word-of
-    add-word-of
-    shared-slice-read-word-of-2
-    add-word-of-2
-    shared-slice-read-word-of-3
-    add-word-of-3
-    shared-slice-read-word-of-4
-    word-of-requires
-    wrapping-add-u32-requires
-    add-i
-    loop-less
-    loop-again
+    joined-rows-requires
+    below-bounds-requires
+    returns
     any-high-requires
-    returns)
+    returns-2
+    sub-word-of
+    sub-word-of-2
+    sub-word-of-3
+    sub-word-of-4
+    word-of-requires
+    any-raised-requires
+    returns-3)

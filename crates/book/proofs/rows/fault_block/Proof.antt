@@ -37,7 +37,7 @@ first-in-sheet-requires c κs = let l = c .before .before .before in
     let k = l .before .before .before in
     let b = k .args .book .now in
     let p : l .loop .s < sheetsOf b = omega arith in
-    (record { head = search needs; entry = omega (arith, sheets-most b (k .pre .1)); blocks = omega (arith, firstBlock-later b (l .loop .s) (sheetsOf b) p) }, l .loop .inv .1, c .bounds-of .ensures)
+    (record { head = search needs; entry = omega (arith, sheets-most b (k .pre .1)); blocks = omega (arith, firstBlock-later b (l .loop .s) (sheetsOf b) p) }, l .loop .inv .1, c .bounds-of .ensures .0, c .bounds-of .ensures .1)
 
 add-result : tie.Need-add-result Inv-loop μ-loop
 unfolding blocksNeeded

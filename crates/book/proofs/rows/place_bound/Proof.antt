@@ -27,14 +27,14 @@ unfolding placeBound
 returns c = let k = c .before .before .before .before .before in
     let b = k .args .h .now in
     let p : k .args .j < widthOf b (k .args .s) = omega arith in
-    let v = values-range b (k .pre .1) _ (column-inside b (k .pre .1) (k .args .s) (k .pre .2) _ p) .1 in
-    rw (lt-ltb _ _ p, c .before .column .ensures .0) (refl, omega (arith, v))
+    let v = values-range b (k .pre .1) _ (column-inside b (k .pre .1) (k .args .s) (k .pre .2) _ p) in
+    rw (lt-ltb _ _ p, c .before .column .ensures .0) (refl, v .0, omega (arith, v .1))
 
 returns-2 : tie.Need-returns-2
 unfolding placeBound
 returns-2 c = let k = c .before .before .before .args in
     let p : widthOf (k .h .now) (k .s) ≤ k .j = omega arith in
-    rw (le-ltb _ _ p) (refl, search needs)
+    rw (le-ltb _ _ p) (refl, search needs, search needs)
 
 pub place-bound-spec : {M : Type 1} → statement M
 place-bound-spec =

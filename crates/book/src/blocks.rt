@@ -6,9 +6,9 @@ use crate::fields::*;
 ghost use mathlib.Core.Path.{_≡_};
 ghost use Prim.Native.Nat.{_+_, _*_, _/_, _%_, _^_, _<_, _≤_};
 ghost use lib.ListN.{length};
-ghost use Rattle.model.specs.Tests.{FirstIn};
+ghost use Rattle.model.specs.Tests.{sum, FirstIn};
 ghost use Rattle.book.specs.Fields.{wordAt};
-ghost use Rattle.book.specs.Blocks.{blockAt, wordSum, checkOf, wrongCheck, wrongLength};
+ghost use Rattle.book.specs.Blocks.{blockAt, word, wrongCheck, wrongLength};
 
 // Whether the length is no book's.
 pub fn wrong_length(book: &[u8]) -> bool
@@ -31,27 +31,19 @@ pub fn block(book: &[u8], n: usize) -> &[u8]
     &book[a..e]
 }
 
-// The sum of a block's 127 words, without the carries past 32 bits.
-fn word_sum(b: &[u8]) -> u32
+// The sum of a block's 128 words, the check among them, without the carries past 32 bits: 128 of them leave the compiler no odd ones.
+fn full_sum(b: &[u8]) -> u32
     requires { ⌜ length (now b) ≡ 512 ⌝ }
-    ensures { λ r. ⌜ r ≡ wordSum (now (b .entry)) % 2 ^ 32 ⌝ }
+    ensures { λ r. ⌜ r ≡ sum 128 (word (now (b .entry))) % 2 ^ 32 ⌝ }
 {
     let mut total: u32 = 0;
     let mut i: usize = 0;
-    while i < 127 {
+    while i < 128 {
         let at = 4 * i;
         total = std::num::wrapping_add_u32(total, word_of(b[at], b[at + 1], b[at + 2], b[at + 3]));
         i += 1;
     }
     total
-}
-
-// What the check of block n, whose bytes are b, has to be.
-fn check_of(b: &[u8], n: u32) -> u32
-    requires { ⌜ (length (now b) ≡ 512) × (n < 65536) ⌝ }
-    ensures { λ r. ⌜ r ≡ checkOf (now (b .entry)) n ⌝ }
-{
-    std::num::wrapping_add_u32(word_sum(b), n + 1)
 }
 
 // The check that stands in a block.
@@ -62,13 +54,15 @@ fn check_in(b: &[u8]) -> u32
     word_of(b[508], b[509], b[510], b[511])
 }
 
-// Whether the check of block n is wrong.
+// Whether the check of block n is wrong. The full sum has the check in it, so it is added on the other side too.
 fn wrong_check(book: &[u8], n: usize) -> bool
     requires { ⌜ (n < 65536) × (512 * n + 512 ≤ length (now book)) ⌝ }
     ensures { λ r. ⌜ r ≡ wrongCheck (now (book .entry)) n ⌝ }
 {
     let b = block(book, n);
-    check_in(b) != check_of(b, n as u32)
+    let check = check_in(b);
+    std::num::wrapping_add_u32(check, check)
+        != std::num::wrapping_add_u32(full_sum(b), n as u32 + 1)
 }
 
 // The first block whose check is wrong, or the number of blocks.

@@ -194,6 +194,17 @@ fn first_in_sheet(book: &[u8], m: Bounds, s: usize, first: usize) -> usize
     q
 }
 
+// The same; a sheet without rows has no bounds to look up.
+fn first_in_rows(book: &[u8], s: usize, first: usize) -> usize
+    requires { ⌜ SheetThere (now book) s × RightHead (now book) × (s < sheetsOf (now book)) × (first ≡ firstBlock (now book) s) ⌝ }
+    ensures { λ r. ⌜ FirstIn (wrongBlock (now (book .entry)) s) 0 (blocksOf (now (book .entry)) s) r ⌝ }
+{
+    if rows(book, s) == 0 {
+        return 0;
+    }
+    first_in_sheet(book, bounds_of(book, s), s, first)
+}
+
 // The block of the first fault of the rows, or 0. The head is right, and the blocks that it needs are there.
 pub fn fault_block(book: &[u8]) -> usize
     requires { ⌜ (512 ≤ length (now book)) × RightHead (now book) × (512 * blocksNeeded (now book) ≤ length (now book)) ⌝ }
@@ -204,7 +215,7 @@ pub fn fault_block(book: &[u8]) -> usize
     let mut s: usize = 0;
     while s < n {
         let blocks = blocks_of(book, s);
-        let q = first_in_sheet(book, bounds_of(book, s), s, first);
+        let q = first_in_rows(book, s, first);
         if q < blocks {
             return first + q;
         }

@@ -28,36 +28,32 @@ loop-holds c = (search needs, sym (firstBlock-zero _), none-empty (le-refl _))
 blocks-of-requires : tie.Need-blocks-of-requires Inv-loop μ-loop
 blocks-of-requires c κs = let k = c .before .before .before .before in (search needs, omega (arith, sheets-most (k .args .book .now) (k .pre .1)))
 
-bounds-of-requires : tie.Need-bounds-of-requires Inv-loop μ-loop
-bounds-of-requires c κs = search needs
-
-first-in-sheet-requires : tie.Need-first-in-sheet-requires Inv-loop μ-loop
+first-in-rows-requires : tie.Need-first-in-rows-requires Inv-loop μ-loop
 unfolding blocksNeeded
-first-in-sheet-requires c κs = let l = c .before .before .before in
+first-in-rows-requires c κs = let l = c .before .before in
     let k = l .before .before .before in
     let b = k .args .book .now in
     let p : l .loop .s < sheetsOf b = omega arith in
-    (record { head = search needs; entry = omega (arith, sheets-most b (k .pre .1)); blocks = omega (arith, firstBlock-later b (l .loop .s) (sheetsOf b) p) }, l .loop .inv .1, c .bounds-of .ensures .0, c .bounds-of .ensures .1)
+    (record { head = search needs; entry = omega (arith, sheets-most b (k .pre .1)); blocks = omega (arith, firstBlock-later b (l .loop .s) (sheetsOf b) p) }, k .pre .1, p, l .loop .inv .1)
 
 add-result : tie.Need-add-result Inv-loop μ-loop
 unfolding blocksNeeded
-add-result c = let l = c .before .before .before .before .before in
+add-result c = let l = c .before .before .before .before in
     let b = l .before .before .before .args .book .now in
     let p : l .loop .s < sheetsOf b = omega arith in
     omega (arith, firstBlock-later b (l .loop .s) (sheetsOf b) p)
 
 returns : tie.Need-returns Inv-loop μ-loop
 unfolding blocksNeeded
-returns c =
-    let l = c .before .before .before .before .before in
+returns c = let l = c .before .before .before .before in
     let b = l .before .before .before .args .book .now in
     let p : l .loop .s < sheetsOf b = omega arith in
-    let q : c .before .first-in-sheet .result < blocksOf b (l .loop .s) = omega arith in
-    (rw (l .loop .inv .1) (sym (fault-found b (l .loop .s) _ p (l .loop .inv .2) (c .before .first-in-sheet .ensures) q)), omega (arith, firstBlock-later b (l .loop .s) (sheetsOf b) p))
+    let q : c .before .first-in-rows .result < blocksOf b (l .loop .s) = omega arith in
+    (rw (l .loop .inv .1) (sym (fault-found b (l .loop .s) _ p (l .loop .inv .2) (c .before .first-in-rows .ensures) q)), omega (arith, firstBlock-later b (l .loop .s) (sheetsOf b) p))
 
 add-first : tie.Need-add-first Inv-loop μ-loop
 unfolding blocksNeeded
-add-first c = let l = c .before .before .before .before .before in
+add-first c = let l = c .before .before .before .before in
     let b = l .before .before .before .args .book .now in
     let p : l .loop .s < sheetsOf b = omega arith in
     omega (arith, firstBlock-later b (l .loop .s) (sheetsOf b) p)
@@ -70,14 +66,13 @@ loop-less c = search needs
 
 loop-again : tie.Need-loop-again Inv-loop μ-loop
 unfolding wrongSheet
-loop-again c = let l = c .before .before .before .before .before in
+loop-again c = let l = c .before .before .before .before in
     let b = l .before .before .before .args .book .now in
-    let q : blocksOf b (l .loop .s) ≤ c .before .first-in-sheet .result = omega arith in
-    (search needs, rw (l .loop .inv .1, c .before .before .before .blocks-of .ensures .0) (sym (firstBlock-more b (l .loop .s))), none-more (l .loop .inv .2) (none-any (firstIn-none (c .before .first-in-sheet .ensures) q)))
+    let q : blocksOf b (l .loop .s) ≤ c .before .first-in-rows .result = omega arith in
+    (search needs, rw (l .loop .inv .1, c .before .before .blocks-of .ensures .0) (sym (firstBlock-more b (l .loop .s))), none-more (l .loop .inv .2) (none-any (firstIn-none (c .before .first-in-rows .ensures) q)))
 
 returns-2 : tie.Need-returns-2 Inv-loop μ-loop
-returns-2 c =
-    let b = c .before .before .before .before .args .book .now in
+returns-2 c = let b = c .before .before .before .before .args .book .now in
     let e : c .before .loop .s ≡ sheetsOf b = omega arith in
     (sym (ap blockOf (fault-none b (rw e at (c .before .loop .inv .2)))), search needs)
 
@@ -90,8 +85,7 @@ fault-block-spec =
     sheets-requires
     loop-holds
     blocks-of-requires
-    bounds-of-requires
-    first-in-sheet-requires
+    first-in-rows-requires
     add-result
     returns
     add-first

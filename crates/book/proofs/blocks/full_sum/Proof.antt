@@ -3,16 +3,16 @@ use Prim.Native.Nat.{_-_, _%_, _^_, _≤_}
 use native.Mathlib.Omega.{arith}
 use borrow.Author.Needs.{needs}
 use Rattle.model.specs.Tests.{sum}
-use Rattle.book.specs.Blocks.{word, wordSum}
+use Rattle.book.specs.Blocks.{word}
 use Rattle.book.proofs.Numbers.{sum-step}
-use Rattle.book.proofs.blocks.word_sum.Statement.{statement}
-use Rattle.book.proofs.blocks.word_sum.Tie as tie
+use Rattle.book.proofs.blocks.full_sum.Statement.{statement}
+use Rattle.book.proofs.blocks.full_sum.Tie as tie
 
 abbrev Inv-loop : tie.InvT-loop
-Inv-loop b total₀ i₀ total i = (i ≤ 127) × (total ≡ sum i (word b) % 2 ^ 32)
+Inv-loop b total₀ i₀ total i = (i ≤ 128) × (total ≡ sum i (word b) % 2 ^ 32)
 
 abbrev μ-loop : tie.MeasureT-loop
-μ-loop b total₀ i₀ total i = 127 - i
+μ-loop b total₀ i₀ total i = 128 - i
 
 loop-holds : tie.Need-loop-holds Inv-loop μ-loop
 unfolding sum
@@ -58,11 +58,10 @@ loop-again : tie.Need-loop-again Inv-loop μ-loop
 loop-again c = (search needs, sum-step (c .before .before .before .before .before .before .before .before .before .args .b .now) _ _ _ _ (c .before .before .before .before .before .before .before .loop .inv .1) (c .before .word-of .ensures) (c .wrapping-add-u32 .ensures))
 
 returns : tie.Need-returns Inv-loop μ-loop
-unfolding wordSum
-returns c = let e : c .before .loop .i ≡ 127 = omega arith in rw e at (c .before .loop .inv .1)
+returns c = let e : c .before .loop .i ≡ 128 = omega arith in rw e at (c .before .loop .inv .1)
 
-pub word-sum-spec : {M : Type 1} → statement M
-word-sum-spec =
+pub full-sum-spec : {M : Type 1} → statement M
+full-sum-spec =
     tie.close
     (tie.spec
     Inv-loop

@@ -10,8 +10,8 @@ use native.Mathlib.Omega.{arith}
 use lib.Dec.{ltb}
 use borrow.Author.Tests.{lt-ltb, le-ltb}
 use Rattle.model.specs.Tests.{FirstIn, NoneIn, lowest, sum}
-use Rattle.model.proofs.Firsts.{firstIn-end, firstIn-found, firstIn-lowest}
-use Rattle.model.proofs.Tests.{anyBelow-i, below, lowest-le, sum-last}
+use Rattle.model.proofs.Firsts.{firstIn-end, firstIn-found, firstIn-lowest, firstIn-most, firstIn-none, lowest-firstIn}
+use Rattle.model.proofs.Tests.{anyBelow-e, anyBelow-i, below, lowest-le, sum-last}
 use Rattle.book.specs.Head.{sheetsOf}
 use Rattle.book.specs.Rows.{blockOf, blocksOf, clean, faultAt, faultInBlock, faultInSheet, firstBlock, firstFault, wrongBlock, wrongByte, wrongSheet}
 
@@ -66,3 +66,18 @@ module _ (b : List ℕ) where
       go : (t : Bool) (s : ℕ) → blockOf (cond t (faultInSheet b s) clean) ≡ 0 → cond t (faultInSheet b s) clean ≡ clean
       go true s k = absurd (omega arith)
       go false s k = refl
+
+  -- no fault, so no wrong sheet
+  pub clean-none : firstFault b ≡ clean → NoneIn (wrongSheet b) 0 (sheetsOf b)
+  unfolding wrongSheet firstBlock
+  clean-none e = go (below (lowest (sheetsOf b) (wrongSheet b)) (sheetsOf b))
+    where
+      go : (lowest (sheetsOf b) (wrongSheet b) < sheetsOf b) ⊎ (sheetsOf b ≤ lowest (sheetsOf b) (wrongSheet b)) → NoneIn (wrongSheet b) 0 (sheetsOf b)
+      go (inl l) =
+          let s = lowest (sheetsOf b) (wrongSheet b) in
+          let f = lowest-firstIn {f = wrongSheet b} (sheetsOf b) in
+          let q = anyBelow-e (blocksOf b s) (wrongBlock b s) (f .passes l) in
+          let g = lowest-firstIn {f = wrongBlock b s} (blocksOf b s) in
+          let k : lowest (blocksOf b s) (wrongBlock b s) < blocksOf b s = omega (arith, firstIn-most (q .0) g (omega arith) (q .2), q .1) in
+          absurd (omega (arith, ap blockOf e, fault-found s _ l (f .none) g k))
+      go (inr l) = firstIn-none (lowest-firstIn (sheetsOf b)) l

@@ -6,3 +6,4 @@ pub mod Head
 pub mod Rows
 pub mod Verdicts
 pub mod Decoding
+pub mod Acceptance

@@ -49,6 +49,14 @@ module _ {f : ℕ → Bool} where
   pub firstIn-none : {a e r : ℕ} → FirstIn f a e r → e ≤ r → NoneIn f a e
   firstIn-none {a} {e} {r} h p = record { at = λ i l k. h .none .at i l (omega arith) }
 
+  -- it is no higher than one that passes
+  pub firstIn-most : {a e r : ℕ} (i : ℕ) → FirstIn f a e r → a ≤ i → f i ≡ true → r ≤ i
+  firstIn-most {a} {e} {r} i h p t = go (below i r)
+    where
+      go : (i < r) ⊎ (r ≤ i) → r ≤ i
+      go (inl l) = absurd (false≢true (sym (h .none .at i p l) ∙ t))
+      go (inr l) = l
+
   -- there is only one
   pub firstIn-only : {a e r q : ℕ} → FirstIn f a e r → FirstIn f a e q → r ≡ q
   firstIn-only {a} {e} {r} {q} h g = go (below r q) (below q r)

@@ -1,0 +1,30 @@
+-- The worked examples, by computation. A wrong definition shows here first. Assumes nothing.
+use mathlib.Core.Path.{refl}
+use Rattle.model.specs.Tests.{anyBelow, sum, lowest, tab}
+use Rattle.book.specs.Blocks.{wrongLength, wordSum, checkOf, wrongCheck, firstWrongCheck}
+use Rattle.book.specs.Head.{wrongLetters, wrongColumns, wrongSheets, wrongValues, wrongWidth, notRising, wrongColumn, wrongRows, wrongInEntry, wrongEntry, wrongField, firstWrongField}
+use Rattle.book.specs.Rows.{blocksOf, firstBlock, blocksNeeded, rowPlace, placeBound, boundOf, wrongByte, wrongBlock, wrongSheet, kindOf, faultAt, faultInBlock, faultInSheet, firstFault}
+use Rattle.book.specs.Verdicts.{verdict, checkResult}
+use Rattle.book.specs.Decoding.{rowOf, sheetOf, bookOf}
+use Rattle.book.specs.Acceptance.{sealed, HarbourFacts, BlockFacts, FieldFacts, RowFacts}
+
+-- opens every definition that an example computes with
+unfoldable pub computing : Unit {0}
+unfolding anyBelow sum lowest tab wrongLength wordSum checkOf wrongCheck firstWrongCheck wrongLetters wrongColumns wrongSheets wrongValues wrongWidth notRising wrongColumn wrongRows wrongInEntry wrongEntry wrongField firstWrongField blocksOf firstBlock blocksNeeded rowPlace placeBound boundOf wrongByte wrongBlock wrongSheet kindOf faultAt faultInBlock faultInSheet firstFault verdict checkResult rowOf sheetOf bookOf sealed
+computing = tt
+
+pub harbourFacts : HarbourFacts
+unfolding computing
+harbourFacts = record { book = refl; check0 = refl; check1 = refl; check2 = refl }
+
+pub blockFacts : BlockFacts
+unfolding computing
+blockFacts = record { none = refl; least = refl; odd = refl; longest = refl; long = refl; carry = refl; carry-last = refl }
+
+pub fieldFacts : FieldFacts
+unfolding computing
+fieldFacts = record { right = refl; letters = refl; no-column = refl; most-columns = refl; many-columns = refl; most-sheets = refl; many-sheets = refl; zero6 = refl; zero7 = refl; no-value = refl; most-values = refl; many-values = refl; value-past = refl; no-width = refl; widest = refl; wide = refl; equal-column = refl; high-column = refl; past-width = refl; byte5 = refl; most-rows = refl; many-rows = refl; high-byte = refl; unused-entry = refl; last-zero = refl }
+
+pub rowFacts : RowFacts
+unfolding computing
+rowFacts = record { most-rows = refl; large = refl; unused = refl }

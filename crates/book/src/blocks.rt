@@ -54,6 +54,14 @@ fn check_in(b: &[u8]) -> u32
     word_of(b[508], b[509], b[510], b[511])
 }
 
+// What the number of a block adds to its check.
+fn number_in_check(n: usize) -> u32
+    requires { ⌜ n < 65536 ⌝ }
+    ensures { λ r. ⌜ r ≡ n + 1 ⌝ }
+{
+    n as u32 + 1
+}
+
 // Whether the check of block n is wrong. The full sum has the check in it, so it is added on the other side too.
 fn wrong_check(book: &[u8], n: usize) -> bool
     requires { ⌜ (n < 65536) × (512 * n + 512 ≤ length (now book)) ⌝ }
@@ -62,7 +70,7 @@ fn wrong_check(book: &[u8], n: usize) -> bool
     let b = block(book, n);
     let check = check_in(b);
     std::num::wrapping_add_u32(check, check)
-        != std::num::wrapping_add_u32(full_sum(b), n as u32 + 1)
+        != std::num::wrapping_add_u32(full_sum(b), number_in_check(n))
 }
 
 // The first block whose check is wrong, or the number of blocks.

@@ -16,7 +16,8 @@ use Rattle.model.proofs.Tests.{below, either}
 use Rattle.book.specs.Blocks.{blockAt}
 use Rattle.book.specs.Fields.{byteAt, setAt}
 use Rattle.book.specs.Head.{rowsOf}
-use Rattle.book.specs.Rows.{RowBounds, SmallBounds, boundOf, firstBlock, fourth, overBounds, placeBound, usedRows, wrongBlock, wrongByte, wrongIn}
+use Rattle.book.specs.Inner.{RowBounds, SmallBounds, fourth, overBounds, usedRows, wrongIn}
+use Rattle.book.specs.Rows.{boundOf, firstBlock, placeBound, wrongBlock, wrongByte}
 use Rattle.book.proofs.Numbers.{block-byte, set-leb}
 
 -- ---- a block

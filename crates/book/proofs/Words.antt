@@ -17,7 +17,7 @@ use Rattle.model.proofs.Masks.{bit-or}
 use Rattle.model.proofs.Tests.{and-l, and-r, below, or-e, or-false-l, or-false-r, or-l, or-r, or-swap}
 use Rattle.book.specs.Blocks.{word}
 use Rattle.book.specs.Fields.{byteAt}
-use Rattle.book.specs.Rows.{anyHigh, belowBounds, joined, overBounds, raisedRow, slackOf}
+use Rattle.book.specs.Inner.{anyHigh, belowBounds, joined, overBounds, raisedRow, slackOf}
 
 -- ---- the highest bits of the four bytes of a number
 -- bit v of m is the highest of the byte p where p's highest bit ends m / 2 ^ v

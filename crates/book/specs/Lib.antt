@@ -6,4 +6,5 @@ pub mod Head
 pub mod Rows
 pub mod Verdicts
 pub mod Decoding
+pub mod Inner
 pub mod Acceptance

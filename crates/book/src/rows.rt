@@ -16,7 +16,8 @@ ghost use lib.ListN.{length, getD};
 ghost use Rattle.model.specs.Tests.{FirstIn, Finds};
 ghost use Rattle.book.specs.Blocks.{word};
 ghost use Rattle.book.specs.Head.{sheetsOf, RightHead};
-ghost use Rattle.book.specs.Rows.{blocksOf, firstBlock, blocksNeeded, placeBound, wrongBlock, firstFault, blockOf, usedRows, wrongIn, overBounds, RowBounds, SmallBounds, SheetThere, joined, belowBounds, anyHigh, raisedRow};
+ghost use Rattle.book.specs.Rows.{blocksOf, firstBlock, blocksNeeded, placeBound, wrongBlock, firstFault, blockOf};
+ghost use Rattle.book.specs.Inner.{usedRows, wrongIn, overBounds, RowBounds, SmallBounds, SheetThere, joined, belowBounds, anyHigh, raisedRow};
 
 // The blocks of sheet s.
 pub fn blocks_of(h: &[u8], s: usize) -> usize

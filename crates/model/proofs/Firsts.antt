@@ -99,19 +99,6 @@ module _ {f : ℕ → Bool} where
   }
   finds-more {a} {i} false h x = record { none = λ p. none-more (x .none refl) p; some = λ p. (i, h, omega arith, p) }
 
-  -- found in a stretch, or nothing there and found or not in the next
-  pub finds-wider : {a m : ℕ} (e : ℕ) → m ≤ e → Finds f a m true → Finds f a e true
-  finds-wider e h x = let r = x .some refl in record {
-    none = λ p. absurd (false≢true (sym p));
-    some = λ p. (r .0, r .1, omega (arith, r .2), r .3);
-  }
-
-  pub finds-join : {a m e : ℕ} {t : Bool} → a ≤ m → Finds f a m false → Finds f m e t → Finds f a e t
-  finds-join {a} {m} {e} {t} h x y = record {
-    none = λ p. none-join (x .none refl) (y .none p);
-    some = λ p. let r = y .some p in (r .0, omega (arith, r .1), r .2, r .3);
-  }
-
   pub finds-any : {n : ℕ} (t : Bool) → Finds f 0 n t → anyBelow n f ≡ t
   finds-any {n} true x = let r = x .some refl in anyBelow-i n f (r .0) (r .2) (r .3)
   finds-any {n} false x = none-any (x .none refl)

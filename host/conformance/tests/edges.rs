@@ -31,6 +31,13 @@ fn filled(blocks: usize, value: u8) -> Vec<u8> {
     bytes
 }
 
+/// The file that readers of the documents try first.
+#[test]
+fn the_harbour_file_is_harbour() {
+    let file = include_bytes!("../../../books/harbour.bin");
+    assert_eq!(file[..], write(&harbour()));
+}
+
 #[test]
 fn smallest_harbour_and_largest() {
     assert_eq!(agreed(&write(&tiny())), 16);

@@ -2,7 +2,7 @@ use mathlib.Core.Path.{sym}
 use borrow.Author.Tests.{eq-eqb, ne-eqb}
 use Rattle.model.specs.Masks.{bit}
 use Rattle.model.proofs.Tests.{or-l, or-r}
-use Rattle.book.specs.Rows.{anyHigh}
+use Rattle.book.specs.Inner.{anyHigh}
 use Rattle.book.proofs.rows.any_high.Statement.{statement}
 use Rattle.book.proofs.rows.any_high.Tie as tie
 

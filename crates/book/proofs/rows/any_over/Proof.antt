@@ -3,7 +3,7 @@ use mathlib.Core.Bool.{true, false≢true}
 use native.Mathlib.Omega.{arith}
 use borrow.Author.Needs.{needs}
 use Rattle.book.specs.Blocks.{word}
-use Rattle.book.specs.Rows.{belowBounds, joined}
+use Rattle.book.specs.Inner.{belowBounds, joined}
 use Rattle.book.proofs.Words.{high-found, joined-below, raised-found}
 use Rattle.book.proofs.rows.any_over.Statement.{statement}
 use Rattle.book.proofs.rows.any_over.Tie as tie

@@ -5,7 +5,7 @@ use native.Mathlib.Omega.{arith}
 use borrow.Author.Needs.{needs}
 use Rattle.model.specs.Tests.{Finds}
 use Rattle.model.proofs.Firsts.{finds-empty, finds-more}
-use Rattle.book.specs.Rows.{anyHigh, raisedRow}
+use Rattle.book.specs.Inner.{anyHigh, raisedRow}
 use Rattle.book.proofs.Words.{high-zero, raised-more}
 use Rattle.book.proofs.rows.any_raised.Statement.{statement}
 use Rattle.book.proofs.rows.any_raised.Tie as tie

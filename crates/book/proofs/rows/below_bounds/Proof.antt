@@ -2,7 +2,7 @@ use Prim.Native.Nat.{_/_, _%_, _≤_, _<_}
 use native.Mathlib.Omega.{arith}
 use borrow.Author.Needs.{needs}
 use borrow.Author.Tests.{lt-ltb, le-ltb}
-use Rattle.book.specs.Rows.{belowBounds}
+use Rattle.book.specs.Inner.{belowBounds}
 use Rattle.book.proofs.rows.below_bounds.Statement.{statement}
 use Rattle.book.proofs.rows.below_bounds.Tie as tie
 

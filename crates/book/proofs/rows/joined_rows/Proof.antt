@@ -3,7 +3,7 @@ use Prim.Native.Nat.{_-_, _≤_}
 use native.Mathlib.Omega.{arith}
 use borrow.Author.Needs.{needs}
 use Rattle.book.specs.Blocks.{word}
-use Rattle.book.specs.Rows.{joined}
+use Rattle.book.specs.Inner.{joined}
 use Rattle.book.proofs.Words.{joined-more}
 use Rattle.book.proofs.rows.joined_rows.Statement.{statement}
 use Rattle.book.proofs.rows.joined_rows.Tie as tie

@@ -9,15 +9,14 @@ use native.Mathlib.Omega.{arith}
 use lib.Dec.{ltb, leb}
 use lib.ListN.{length}
 use borrow.Author.Tests.{eqb-true, lt-ltb, le-ltb, lt-leb, not-false}
-use Rattle.model.specs.Choices.{first}
 use Rattle.model.specs.Tests.{Finds, NoneIn}
 use Rattle.model.proofs.Firsts.{finds-any, finds-fours, finds-same}
 use Rattle.model.proofs.Tests.{below, either}
 use Rattle.book.specs.Blocks.{blockAt}
 use Rattle.book.specs.Fields.{byteAt, setAt}
 use Rattle.book.specs.Head.{rowsOf}
-use Rattle.book.specs.Inner.{RowBounds, SmallBounds, fourth, overBounds, usedRows, wrongIn}
-use Rattle.book.specs.Rows.{boundOf, firstBlock, placeBound, wrongBlock, wrongByte}
+use Rattle.book.specs.Inner.{BoundedSheet, SmallBounds, fourth, overBounds, usedRows, wrongIn}
+use Rattle.book.specs.Rows.{blocksOf, boundOf, firstBlock, placeBound, wrongBlock, wrongByte}
 use Rattle.book.proofs.Numbers.{block-byte, set-leb}
 
 -- ---- a block
@@ -113,9 +112,11 @@ module _ (b : List ℕ) (s q : ℕ) (there : 512 * (firstBlock b s + q) + 512 �
   unfolding wrongBlock
   block-wrong r h = sym (finds-any r (finds-same (λ i l p. same-byte i p) h))
 
--- the same of what the code holds: the bounds, the block's bytes, the sheet's first block, its rows and the used ones of block q
-pub block-seen : (b block : List ℕ) (s q w x y z first n used : ℕ) (r : Bool)
-    → RowBounds b s w x y z → block ≡ blockAt b (first + q) → first ≡ firstBlock b s → n ≡ rowsOf b s → used ≡ usedRows n q
-    → 512 * (first + q) + 512 ≤ length b → 127 * q < n → Finds (wrongIn w x y z block (4 * used)) 0 508 r → r ≡ wrongBlock b s q
-block-seen b block s q w x y z first n used r m hb hf hn hu there some h =
-    block-wrong b s q (omega arith) (omega arith) r (rw (m .first, m .second, m .third, m .last, hb, hu, hn, hf) at h)
+-- the same of what the code holds: the sheet with its bounds, the block's bytes, the sheet's rows and the used ones of block q
+pub block-seen : (b block : List ℕ) (s q start w x y z n used : ℕ) (r : Bool)
+    → BoundedSheet b s start w x y z → q < blocksOf b s → block ≡ blockAt b (start + q) → n ≡ rowsOf b s → used ≡ usedRows n q
+    → Finds (wrongIn w x y z block (4 * used)) 0 508 r → r ≡ wrongBlock b s q
+unfolding blocksOf
+block-seen b block s q start w x y z n used r m p hb hn hu h =
+    let k = m .bounds in
+    block-wrong b s q (omega arith) (omega arith) r (rw (k .first, k .second, k .third, k .last, hb, hu, hn, m .starts) at h)

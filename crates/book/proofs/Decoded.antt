@@ -11,7 +11,7 @@ use Rattle.model.specs.Books.{WellFormed, WellFormedSheet}
 use Rattle.model.specs.Tests.{NoneIn, lowest, tab}
 use Rattle.model.proofs.Firsts.{any-none, firstIn-none, lowest-firstIn}
 use Rattle.model.proofs.Tests.{below, either, getD-tab, length-tab}
-use Rattle.book.specs.Blocks.{blockCount, wrongCheck, wrongLength}
+use Rattle.book.specs.Blocks.{RightChecks, RightLength, blockCount, wrongCheck, wrongLength}
 use Rattle.book.specs.Decoding.{AcceptedWellFormed, bookOf, rowOf, sheetOf}
 use Rattle.book.specs.Fields.{byteAt}
 use Rattle.book.specs.Head.{RightHead, columnOf, columnsOf, rowsOf, sheetsOf, valuesOf, widthOf, wrongField}
@@ -23,8 +23,8 @@ use Rattle.book.proofs.Right.{column-inside, column-rises, columns-rang
 
 -- ---- nothing is wrong
 pub record RightBook (b : List ℕ) : Type 0 where
-  pub length-right : wrongLength b ≡ false
-  pub checks : NoneIn (wrongCheck b) 0 (blockCount b)
+  pub length-right : RightLength b
+  pub checks : RightChecks b
   pub head : RightHead b
   pub blocks : blocksNeeded b ≡ blockCount b
   pub rows : firstFault b ≡ clean

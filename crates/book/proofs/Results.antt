@@ -1,5 +1,5 @@
 -- The number of a check, cause by cause. Assumes nothing.
-use mathlib.Core.Path.{_≡_, refl, ap, _∙_}
+use mathlib.Core.Path.{_≡_, refl, _∙_}
 use mathlib.Core.Bool.{true, false, not}
 use mathlib.Core.List.{List}
 use Prim.Native.Nat.{ℕ, _+_, _*_, _%_, _≤_, _<_}
@@ -8,18 +8,17 @@ use native.Mathlib.Omega.{arith}
 use lib.Dec.{eqb, ltb}
 use lib.ListN.{length}
 use borrow.Author.Tests.{eqb-true, lt-ltb, le-ltb, eq-eqb, ne-eqb, not-false}
-use Rattle.model.specs.Orders.{kind}
-use Rattle.model.specs.Tests.{FirstIn, NoneIn, lowest}
+use Rattle.model.specs.Tests.{FirstIn, lowest}
 use Rattle.model.proofs.Firsts.{firstIn-end, firstIn-lowest}
 use Rattle.model.proofs.Tests.{or-false-l, or-false-r}
-use Rattle.book.specs.Blocks.{blockCount, firstWrongCheck, wrongCheck, wrongLength}
+use Rattle.book.specs.Blocks.{RightChecks, RightLength, blockCount, firstWrongCheck, wrongCheck, wrongLength}
 use Rattle.book.specs.Head.{RightHead, columnsOf, firstWrongField, sheetsOf, wrongField}
-use Rattle.book.specs.Rows.{RowFault, blockOf, blocksNeeded, clean, fault, firstBlock, firstFault}
+use Rattle.book.specs.Rows.{RowFault, blockOf, blocksNeeded, clean, fault, firstFault}
 use Rattle.book.specs.Verdicts.{checkResult, numberOf, refused, rowVerdict, verdict}
 use Rattle.book.proofs.Numbers.{in-range}
 
 -- a right length is that of 1 to 33 blocks
-pub right-length : (b : List ℕ) → wrongLength b ≡ false → (512 * blockCount b ≡ length b) × (1 ≤ blockCount b) × (blockCount b ≤ 33)
+pub right-length : (b : List ℕ) → RightLength b → (512 * blockCount b ≡ length b) × (1 ≤ blockCount b) × (blockCount b ≤ 33)
 unfolding wrongLength
 right-length b e =
     let m : length b % 512 ≡ 0 = eqb-true (length b % 512) 0 (not-false _ (or-false-l _ _ e)) in
@@ -31,12 +30,12 @@ module _ (b : List ℕ) where
   unfolding checkResult verdict
   result-length e = rw e
 
-  module _ (h1 : wrongLength b ≡ false) where
+  module _ (h1 : RightLength b) where
     pub result-check : (n : ℕ) → FirstIn (wrongCheck b) 0 (blockCount b) n → n < blockCount b → checkResult b ≡ refused 2 n
     unfolding checkResult verdict firstWrongCheck
     result-check n f l = rw (h1, firstIn-lowest f, lt-ltb n (blockCount b) l)
 
-    module _ (h2 : NoneIn (wrongCheck b) 0 (blockCount b)) where
+    module _ (h2 : RightChecks b) where
       checks : ltb (firstWrongCheck b) (blockCount b) ≡ false
       unfolding firstWrongCheck
       checks =
@@ -73,11 +72,6 @@ module _ (b : List ℕ) where
           pub result-accepted : firstFault b ≡ clean → checkResult b ≡ columnsOf b * 16 + sheetsOf b
           result-accepted h = last ∙ rw h
 
--- the number of blocks that the code counts
-pub needed-is : (b : List ℕ) (n r : ℕ) → n ≡ sheetsOf b → r ≡ firstBlock b n → r ≡ blocksNeeded b
-unfolding blocksNeeded
-needed-is b n r e h = h ∙ ap (firstBlock b) e
-
 -- a right length is that of a head at least
-pub head-there : (b : List ℕ) → wrongLength b ≡ false → 512 ≤ length b
+pub head-there : (b : List ℕ) → RightLength b → 512 ≤ length b
 head-there b e = let r = right-length b e in omega (arith, r .0, r .1)

@@ -1,11 +1,12 @@
 -- Blocks and their checks. "A book is 1 to 33 blocks of 512 bytes."
-use mathlib.Core.Bool.{Bool, not, _||_}
+use mathlib.Core.Path.{_≡_}
+use mathlib.Core.Bool.{Bool, false, not, _||_}
 use mathlib.Core.List.{List}
 use Prim.Native.Nat.{ℕ, _+_, _*_, _/_, _%_, _^_}
 use lib.Dec.{eqb}
 use lib.ListN.{length, take, drop}
-use Rattle.model.specs.Tests.{sum, lowest}
-use Rattle.book.specs.Fields.{wordAt, outOfRange}
+use Rattle.model.specs.Tests.{NoneIn, lowest, sum}
+use Rattle.book.specs.Fields.{outOfRange, wordAt}
 
 -- "the length isn't a multiple of 512 from 512 to 16,896"
 unfoldable pub wrongLength : List ℕ → Bool
@@ -38,3 +39,10 @@ wrongCheck b n = not (eqb (wordAt (blockAt b n) 508) (checkOf (blockAt b n) n))
 -- "2 if a check is wrong, place the lowest such block"; the number of blocks where none is
 unfoldable pub firstWrongCheck : List ℕ → ℕ
 firstWrongCheck b = lowest (blockCount b) (wrongCheck b)
+
+-- the length is right; every check is
+abbrev pub RightLength : List ℕ → Type 0
+RightLength b = wrongLength b ≡ false
+
+abbrev pub RightChecks : List ℕ → Type 0
+RightChecks b = NoneIn (wrongCheck b) 0 (blockCount b)

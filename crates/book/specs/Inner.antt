@@ -48,6 +48,13 @@ pub record SheetThere (b : List ℕ) (s : ℕ) : Type 0 where
   pub entry : s < 8
   pub blocks : 512 * (firstBlock b s + blocksOf b s) ≤ length b
 
+-- the same, with the block where its rows begin and the bounds of their bytes
+pub record BoundedSheet (b : List ℕ) (s start w x y z : ℕ) : Type 0 where
+  pub there : SheetThere b s
+  pub starts : start ≡ firstBlock b s
+  pub bounds : RowBounds b s w x y z
+  pub small : SmallBounds w x y z
+
 -- ---- a row as one 32-bit number
 -- the numbers f 0, f 1, .. , n of them, joined by `|`: every bit that one of them has
 unfoldable pub joined : (ℕ → ℕ) → ℕ → ℕ

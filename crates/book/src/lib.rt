@@ -17,6 +17,8 @@ use crate::head::*;
 use crate::rows::*;
 ghost use mathlib.Core.Path.{_≡_};
 ghost use Prim.Native.Nat.{_<_};
+ghost use Rattle.book.specs.Blocks.{RightLength, RightChecks};
+ghost use Rattle.book.specs.Head.{RightHead};
 ghost use Rattle.book.specs.Verdicts.{checkResult, refused};
 
 // A refusal and its place as one number.
@@ -27,6 +29,47 @@ pub fn refusal(n: u64, place: usize) -> u64
     n * 65536 + (place as u64)
 }
 
+// Of a book whose length, checks and head are right: refusal 4 or 5, or the accepted figure.
+fn check_rows(book: &[u8]) -> u64
+    requires { ⌜ RightLength (now book) × RightChecks (now book) × RightHead (now book) ⌝ }
+    ensures { λ r. ⌜ r ≡ checkResult (now (book .entry)) ⌝ }
+{
+    let needed = blocks_needed(book);
+    if needed != book.len() / 512 {
+        return refusal(4, needed);
+    }
+    let n = fault_block(book);
+    if n != 0 {
+        return refusal(5, n);
+    }
+    (columns(book) as u64) * 16 + (sheets(book) as u64)
+}
+
+// Of a book whose length and checks are right: refusal 3, or what comes after it.
+fn check_head(book: &[u8]) -> u64
+    requires { ⌜ RightLength (now book) × RightChecks (now book) ⌝ }
+    ensures { λ r. ⌜ r ≡ checkResult (now (book .entry)) ⌝ }
+{
+    let i = first_wrong_field(book);
+    if i < 508 {
+        return refusal(3, i);
+    }
+    check_rows(book)
+}
+
+// Of a book whose length is right: refusal 2, or what comes after it.
+fn check_blocks(book: &[u8]) -> u64
+    requires { ⌜ RightLength (now book) ⌝ }
+    ensures { λ r. ⌜ r ≡ checkResult (now (book .entry)) ⌝ }
+{
+    let blocks = book.len() / 512;
+    let n = first_wrong_check(book, blocks);
+    if n < blocks {
+        return refusal(2, n);
+    }
+    check_head(book)
+}
+
 // Checks a book: its refusal and place as one number, the lowest refusal that applies, or C × 16 + S.
 pub fn check(book: &[u8]) -> u64
     ensures { λ r. ⌜ r ≡ checkResult (now (book .entry)) ⌝ }
@@ -34,22 +77,5 @@ pub fn check(book: &[u8]) -> u64
     if wrong_length(book) {
         return refusal(1, 0);
     }
-    let blocks = book.len() / 512;
-    let n = first_wrong_check(book, blocks);
-    if n < blocks {
-        return refusal(2, n);
-    }
-    let i = first_wrong_field(book);
-    if i < 508 {
-        return refusal(3, i);
-    }
-    let needed = first_block(book, sheets(book));
-    if needed != blocks {
-        return refusal(4, needed);
-    }
-    let row = fault_block(book);
-    if row != 0 {
-        return refusal(5, row);
-    }
-    (columns(book) as u64) * 16 + (sheets(book) as u64)
+    check_blocks(book)
 }

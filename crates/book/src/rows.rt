@@ -17,7 +17,7 @@ ghost use Rattle.model.specs.Tests.{FirstIn, Finds};
 ghost use Rattle.book.specs.Blocks.{word};
 ghost use Rattle.book.specs.Head.{sheetsOf, RightHead};
 ghost use Rattle.book.specs.Rows.{blocksOf, firstBlock, blocksNeeded, placeBound, wrongBlock, firstFault, blockOf};
-ghost use Rattle.book.specs.Inner.{usedRows, wrongIn, overBounds, RowBounds, SmallBounds, SheetThere, joined, belowBounds, anyHigh, raisedRow};
+ghost use Rattle.book.specs.Inner.{usedRows, wrongIn, overBounds, RowBounds, SmallBounds, SheetThere, BoundedSheet, joined, belowBounds, anyHigh, raisedRow};
 
 // The blocks of sheet s.
 pub fn blocks_of(h: &[u8], s: usize) -> usize
@@ -39,6 +39,14 @@ pub fn first_block(h: &[u8], s: usize) -> usize
         t += 1;
     }
     n
+}
+
+// The blocks that the head and the sheets need; there are at most eight sheets.
+pub fn blocks_needed(h: &[u8]) -> usize
+    requires { ⌜ (512 ≤ length (now h)) × (sheetsOf (now h) ≤ 8) ⌝ }
+    ensures { λ r. ⌜ (r ≡ blocksNeeded (now (h .entry))) × (r < 65536) ⌝ }
+{
+    first_block(h, sheets(h))
 }
 
 // ---- the bounds of a sheet's rows
@@ -178,16 +186,23 @@ fn used_rows(n: usize, q: usize) -> usize
     if left < 127 { left } else { 127 }
 }
 
-// The first wrong block of sheet s, counted from its first, or the number of its blocks. m are its bounds.
+// Whether block q of sheet s, whose blocks begin at block `first`, has a wrong byte. m are the sheet's bounds.
+fn wrong_block(book: &[u8], m: Bounds, s: usize, first: usize, q: usize) -> bool
+    requires { ⌜ BoundedSheet (now book) s first (m .w) (m .x) (m .y) (m .z) × (q < blocksOf (now book) s) ⌝ }
+    ensures { λ r. ⌜ r ≡ wrongBlock (now (book .entry)) s q ⌝ }
+{
+    any_wrong(block(book, first + q), m, used_rows(rows(book, s), q))
+}
+
+// The first wrong block of sheet s, counted from its first, or the number of its blocks.
 fn first_in_sheet(book: &[u8], m: Bounds, s: usize, first: usize) -> usize
-    requires { ⌜ SheetThere (now book) s × (first ≡ firstBlock (now book) s) × RowBounds (now book) s (m .w) (m .x) (m .y) (m .z) × SmallBounds (m .w) (m .x) (m .y) (m .z) ⌝ }
+    requires { ⌜ BoundedSheet (now book) s first (m .w) (m .x) (m .y) (m .z) ⌝ }
     ensures { λ r. ⌜ FirstIn (wrongBlock (now (book .entry)) s) 0 (blocksOf (now (book .entry)) s) r ⌝ }
 {
-    let n = rows(book, s);
     let blocks = blocks_of(book, s);
     let mut q: usize = 0;
     while q < blocks {
-        if any_wrong(block(book, first + q), m, used_rows(n, q)) {
+        if wrong_block(book, m, s, first, q) {
             return q;
         }
         q += 1;

@@ -54,9 +54,6 @@ fn books() -> Vec<(String, Vec<u8>)> {
         let name = format!("16 columns of 32, 8 sheets of 508 rows, width {width}");
         books.push((name, write(&regular(16, 32, 8, 508, width))));
     }
-    // 18 is no power of two: the rows joined by `|` do not settle it alone.
-    let name = "16 columns of 18, 8 sheets of 508 rows, width 4";
-    books.push((name.into(), write(&regular(16, 18, 8, 508, 4))));
     let last = 32 * BLOCK;
     let mut row = write(&regular(16, 32, 8, 508, 4));
     let mut check = row.clone();
@@ -65,6 +62,9 @@ fn books() -> Vec<(String, Vec<u8>)> {
     check[last + 508] ^= 1;
     books.push(("the same, a value too large in the last row".into(), row));
     books.push(("the same, a wrong check in the last block".into(), check));
+    // 18 is no power of two: the rows joined by `|` do not settle it alone.
+    let name = "16 columns of 18, 8 sheets of 508 rows, width 4";
+    books.push((name.into(), write(&regular(16, 18, 8, 508, 4))));
     books
 }
 

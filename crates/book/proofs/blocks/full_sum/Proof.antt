@@ -55,7 +55,9 @@ loop-less : tie.Need-loop-less Inv-loop μ-loop
 loop-less c = search needs
 
 loop-again : tie.Need-loop-again Inv-loop μ-loop
-loop-again c = (search needs, sum-step (c .before .before .before .before .before .before .before .before .before .args .b .now) _ _ _ _ (c .before .before .before .before .before .before .before .loop .inv .1) (c .before .word-of .ensures) (c .wrapping-add-u32 .ensures))
+loop-again c =
+    let l = c .before .before .before .before .before .before .before in
+    (search needs, sum-step (l .before .before .args .b .now) _ _ _ _ (l .loop .inv .1) (c .before .word-of .ensures) (c .wrapping-add-u32 .ensures))
 
 returns : tie.Need-returns Inv-loop μ-loop
 returns c = let e : c .before .loop .i ≡ 128 = omega arith in rw e at (c .before .loop .inv .1)

@@ -25,24 +25,28 @@ wrong-sheets-requires : tie.Need-wrong-sheets-requires
 wrong-sheets-requires c κs = search needs
 
 returns-3 : tie.Need-returns-3
-returns-3 c = let b = c .before .before .before .before .before .before .before .args .h .now in
+returns-3 c =
+    let s = c .before in
+    let k = s .before .before in
+    let l = k .before .before in
+    let b = l .before .before .args .h .now in
     firstIn-found (search needs) (search needs)
-    (none-more
-    (right-letters b (sym (c .before .before .before .before .before .wrong-letters .ensures) ∙ c .before .before .before .before .if1 .left))
-    (field-columns b ∙ sym (c .before .before .before .wrong-columns .ensures) ∙ c .before .before .if2 .left))
-    (field-sheets b ∙ sym (c .before .wrong-sheets .ensures) ∙ c .if3 .taken)
+    (none-more (right-letters b (sym (l .wrong-letters .ensures) ∙ k .before .if1 .left)) (field-columns b ∙ sym (k .wrong-columns .ensures) ∙ s .before .if2 .left))
+    (field-sheets b ∙ sym (s .wrong-sheets .ensures) ∙ c .if3 .taken)
 
 first-set-requires : tie.Need-first-set-requires
 first-set-requires c κs = search needs
 
 returns-4 : tie.Need-returns-4
-returns-4 c = let b = c .before .before .before .before .before .before .before .before .args .h .now in
+returns-4 c =
+    let s = c .before .before in
+    let k = s .before .before in
+    let l = k .before .before in
+    let b = l .before .before .args .h .now in
     firstIn-join (search needs)
     (none-more
-    (none-more
-    (right-letters b (sym (c .before .before .before .before .before .before .wrong-letters .ensures) ∙ c .before .before .before .before .before .if1 .left))
-    (field-columns b ∙ sym (c .before .before .before .before .wrong-columns .ensures) ∙ c .before .before .before .if2 .left))
-    (field-sheets b ∙ sym (c .before .before .wrong-sheets .ensures) ∙ c .before .if3 .left))
+    (none-more (right-letters b (sym (l .wrong-letters .ensures) ∙ k .before .if1 .left)) (field-columns b ∙ sym (k .wrong-columns .ensures) ∙ s .before .if2 .left))
+    (field-sheets b ∙ sym (s .wrong-sheets .ensures) ∙ c .before .if3 .left))
     (firstIn-same (λ i p q. sym (field-zero b i p q)) (c .first-set .ensures))
 
 pub first-in-front-spec : {M : Type 1} → statement M

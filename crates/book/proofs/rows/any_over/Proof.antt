@@ -1,9 +1,10 @@
-use mathlib.Core.Path.{_≡_, sym, _∙_}
-use mathlib.Core.Bool.{true, false≢true}
+use mathlib.Core.Path.{sym, _∙_}
+use mathlib.Core.Bool.{false≢true}
+use Prim.Native.Nat.{ℕ, _<_}
 use native.Mathlib.Omega.{arith}
 use borrow.Author.Needs.{needs}
-use Rattle.book.specs.Blocks.{word}
-use Rattle.book.specs.Inner.{belowBounds, joined}
+use Rattle.model.proofs.Tests.{below}
+use Rattle.book.specs.Fields.{byteAt}
 use Rattle.book.proofs.Words.{high-found, joined-below, raised-found}
 use Rattle.book.proofs.rows.any_over.Statement.{statement}
 use Rattle.book.proofs.rows.any_over.Tie as tie
@@ -15,20 +16,27 @@ below-bounds-requires : tie.Need-below-bounds-requires
 below-bounds-requires c κs = search needs
 
 returns : tie.Need-returns
-returns c = let j = c .before .before in
+returns c =
+    let j = c .before .before in
     let k = j .before .before in
+    let b = k .args .b .now in
     let m = k .args .m in
-    let e : belowBounds (m .w) (m .x) (m .y) (m .z) (joined (word (k .args .b .now)) 127) ≡ true = rw (j .joined-rows .ensures) at (sym (c .before .below-bounds .ensures) ∙ c .if1 .taken) in
-    record { none = λ p. joined-below (k .args .b .now) (λ i. omega (arith, j .before .shared-slice-known .given i)) (m .w) (m .x) (m .y) (m .z) 127 e; some = λ p. absurd (false≢true p) }
+    let bytes : (i : ℕ) → byteAt b i < 256 = λ i. omega (arith, j .before .shared-slice-known .given i) in
+    let below = rw (j .joined-rows .ensures) at (sym (c .before .below-bounds .ensures) ∙ c .if1 .taken) in
+    record { none = λ p. joined-below b bytes (m .w) (m .x) (m .y) (m .z) 127 below; some = λ p. absurd (false≢true p) }
 
 any-high-requires : tie.Need-any-high-requires
 any-high-requires c κs = search needs
 
 returns-2 : tie.Need-returns-2
-returns-2 c = let j = c .before .before .before .before in
+returns-2 c =
+    let j = c .before .before .before .before in
     let k = j .before .before in
+    let b = k .args .b .now in
     let m = k .args .m in
-    high-found (k .args .b .now) (λ i. omega (arith, j .before .shared-slice-known .given i)) (m .w) (m .x) (m .y) (m .z) 127 (k .pre .1 .few) (rw (j .joined-rows .ensures) at (sym (c .before .any-high .ensures) ∙ c .if2 .taken))
+    let bytes : (i : ℕ) → byteAt b i < 256 = λ i. omega (arith, j .before .shared-slice-known .given i) in
+    let high = rw (j .joined-rows .ensures) at (sym (c .before .any-high .ensures) ∙ c .if2 .taken) in
+    high-found b bytes (m .w) (m .x) (m .y) (m .z) 127 (k .pre .1 .few) high
 
 sub-word-of : tie.Need-sub-word-of
 sub-word-of c = search needs
@@ -49,11 +57,15 @@ any-raised-requires : tie.Need-any-raised-requires
 any-raised-requires c κs = search needs
 
 returns-3 : tie.Need-returns-3
-returns-3 c = let h = c .before .before .before .before .before .before .before in
+returns-3 c =
+    let h = c .before .before .before .before .before .before .before in
     let j = h .before .before .before in
     let k = j .before .before in
+    let b = k .args .b .now in
     let m = k .args .m in
-    raised-found (k .args .b .now) (λ i. omega (arith, j .before .shared-slice-known .given i)) (m .w) (m .x) (m .y) (m .z) 127 (k .pre .1 .few) (rw (j .joined-rows .ensures) at (sym (h .any-high .ensures) ∙ c .before .before .before .before .before .before .if2 .left)) (rw (c .before .word-of .ensures) at (c .any-raised .ensures))
+    let bytes : (i : ℕ) → byteAt b i < 256 = λ i. omega (arith, j .before .shared-slice-known .given i) in
+    let low = rw (j .joined-rows .ensures) at (sym (h .any-high .ensures) ∙ c .before .before .before .before .before .before .if2 .left) in
+    raised-found b bytes (m .w) (m .x) (m .y) (m .z) 127 (k .pre .1 .few) low (rw (c .before .word-of .ensures) at (c .any-raised .ensures))
 
 pub any-over-spec : {M : Type 1} → statement M
 any-over-spec =

@@ -3,7 +3,6 @@ use Prim.Native.Nat.{_-_, _≤_, _<_}
 use native.Mathlib.Nat.{le-refl}
 use native.Mathlib.Omega.{arith}
 use borrow.Author.Needs.{needs}
-use Rattle.model.specs.Choices.{first}
 use Rattle.model.specs.Tests.{NoneIn}
 use Rattle.model.proofs.Firsts.{firstIn-none, none-any, none-empty, none-more}
 use Rattle.book.specs.Head.{sheetsOf}

@@ -1,0 +1,69 @@
+use mathlib.Core.Path.{sym, _∙_}
+use native.Mathlib.Omega.{arith}
+use borrow.Author.Needs.{needs}
+use Rattle.book.proofs.Faults.{fault-zero}
+use Rattle.book.proofs.Results.{head-there, result-accepted, result-blocks, result-row}
+use Rattle.book.proofs.Right.{sheets-most}
+use Rattle.book.proofs.check_rows.Statement.{statement}
+use Rattle.book.proofs.check_rows.Tie as tie
+
+blocks-needed-requires : tie.Need-blocks-needed-requires
+blocks-needed-requires c κs = let k = c .before in (head-there _ (k .pre .0), sheets-most _ (k .pre .2))
+
+refusal-requires : tie.Need-refusal-requires
+refusal-requires c κs = search needs
+
+returns : tie.Need-returns
+returns c = let n = c .before .before in
+    let k = n .before .before in
+    c .refusal .ensures
+    ∙ rw (n .blocks-needed .ensures .0) (sym (result-blocks _ (k .pre .0) (k .pre .1) (k .pre .2) (λ e. c .before .if1 .taken (n .blocks-needed .ensures .0 ∙ e))))
+
+fault-block-requires : tie.Need-fault-block-requires
+fault-block-requires c κs = let k = c .before .before .before in (head-there _ (k .pre .0), k .pre .2, omega arith)
+
+refusal-requires-2 : tie.Need-refusal-requires-2
+refusal-requires-2 c κs = search needs
+
+returns-2 : tie.Need-returns-2
+returns-2 c = let r = c .before .before in
+    let n = r .before .before in
+    let k = n .before .before in
+    c .refusal2 .ensures
+    ∙ rw (r .fault-block .ensures .0)
+    (sym (result-row _ (k .pre .0) (k .pre .1) (k .pre .2) (sym (n .blocks-needed .ensures .0) ∙ r .before .if1 .left) (λ e. c .before .if2 .taken (r .fault-block .ensures .0 ∙ e))))
+
+columns-requires : tie.Need-columns-requires
+columns-requires c κs = head-there _ (c .before .before .before .before .before .pre .0)
+
+mul-result : tie.Need-mul-result
+mul-result c = search needs
+
+sheets-requires : tie.Need-sheets-requires
+sheets-requires c κs = head-there _ (c .before .before .before .before .before .before .pre .0)
+
+add-result : tie.Need-add-result
+add-result c = search needs
+
+returns-3 : tie.Need-returns-3
+returns-3 c = let r = c .before .before .before in
+    let n = r .before .before in
+    let k = n .before .before in
+    rw (c .before .columns .ensures .0, c .sheets .ensures .0)
+    (sym (result-accepted _ (k .pre .0) (k .pre .1) (k .pre .2) (sym (n .blocks-needed .ensures .0) ∙ r .before .if1 .left) (fault-zero _ (sym (r .fault-block .ensures .0) ∙ c .before .before .if2 .left))))
+
+pub check-rows-spec : {M : Type 1} → statement M
+check-rows-spec =
+    tie.close
+    (tie.spec
+    blocks-needed-requires
+    refusal-requires
+    returns
+    fault-block-requires
+    refusal-requires-2
+    returns-2
+    columns-requires
+    mul-result
+    sheets-requires
+    add-result
+    returns-3)

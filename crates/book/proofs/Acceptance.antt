@@ -15,16 +15,79 @@ computing = tt
 
 pub harbourFacts : HarbourFacts
 unfolding computing
-harbourFacts = record { book = refl; check0 = refl; check1 = refl; check2 = refl }
+harbourFacts = record {
+  book = refl;
+  check0 = refl;
+  check1 = refl;
+  check2 = refl;
+}
 
 pub blockFacts : BlockFacts
 unfolding computing
-blockFacts = record { none = refl; least = refl; odd = refl; longest = refl; long = refl; carry = refl; carry-last = refl }
+blockFacts = record {
+  none = refl;
+  least = refl;
+  odd = refl;
+  longest = refl;
+  long = refl;
+  carry = refl;
+  carry-last = refl;
+  bit31 = refl;
+  last-word = refl;
+}
 
 pub fieldFacts : FieldFacts
 unfolding computing
-fieldFacts = record { right = refl; letters = refl; no-column = refl; most-columns = refl; many-columns = refl; most-sheets = refl; many-sheets = refl; zero6 = refl; zero7 = refl; no-value = refl; most-values = refl; many-values = refl; value-past = refl; no-width = refl; widest = refl; wide = refl; equal-column = refl; high-column = refl; past-width = refl; byte5 = refl; most-rows = refl; many-rows = refl; high-byte = refl; unused-entry = refl; last-zero = refl }
+fieldFacts = record {
+  right = refl;
+  letters = refl;
+  no-column = refl;
+  most-columns = refl;
+  many-columns = refl;
+  most-sheets = refl;
+  many-sheets = refl;
+  zero6 = refl;
+  zero7 = refl;
+  no-value = refl;
+  most-values = refl;
+  many-values = refl;
+  value-past = refl;
+  no-width = refl;
+  widest = refl;
+  wide = refl;
+  equal-column = refl;
+  high-column = refl;
+  past-width = refl;
+  byte5 = refl;
+  past-width1 = refl;
+  byte5-1 = refl;
+  no-rows = refl;
+  most-rows = refl;
+  many-rows = refl;
+  high-byte = refl;
+  unused-entry = refl;
+  last-zero = refl;
+}
 
 pub rowFacts : RowFacts
 unfolding computing
-rowFacts = record { most-rows = refl; large = refl; unused = refl }
+rowFacts = record {
+  rows0 = refl;
+  rows1 = refl;
+  rows127 = refl;
+  rows128 = refl;
+  rows508 = refl;
+  needed = refl;
+  last-in-block = refl;
+  first-in-next = refl;
+  value = refl;
+  filler = refl;
+  filler-kind = refl;
+  unused-row = refl;
+  next-block = refl;
+  next-unused = refl;
+  large = refl;
+  unused = refl;
+  block-end = refl;
+  block-start = refl;
+}

@@ -1,4 +1,4 @@
--- What a look at a block finds, beside the bounds of its bytes. Assumes nothing.
+-- What a look at a block finds, compared with the bounds of its bytes. Assumes nothing.
 use mathlib.Core.Path.{_≡_, refl, sym, _∙_}
 use mathlib.Core.Bool.{Bool, true, false, _||_}
 use mathlib.Core.Logic.{_⊎_, inl, inr}
@@ -88,27 +88,23 @@ module _ (b : List ℕ) (s q : ℕ) (there : 512 * (firstBlock b s + q) + 512 �
       go (inr d) l =
           rw (le-ltb (rowsOf b s - 127 * q) 127 d) (lt-ltb i (4 * 127) (omega arith) ∙ sym (lt-ltb (127 * q + i / 4) (rowsOf b s) (omega arith)))
 
-  same-byte : (i : ℕ) → i < 508
-      → wrongIn (placeBound b s 0) (placeBound b s 1) (placeBound b s 2) (placeBound b s 3) (blockAt b (firstBlock b s + q)) (4 * usedRows (rowsOf b s) q) i
-      ≡ wrongByte b s q i
+  -- byte i is wrong, as the code looks at it
+  abbrev seenWrong : ℕ → Bool
+  seenWrong = wrongIn (placeBound b s 0) (placeBound b s 1) (placeBound b s 2) (placeBound b s 3) (blockAt b (firstBlock b s + q)) (4 * usedRows (rowsOf b s) q)
+
+  same-byte : (i : ℕ) → i < 508 → seenWrong i ≡ wrongByte b s q i
   unfolding wrongIn wrongByte boundOf
   same-byte i p = go (either (ltb (127 * q + i / 4) (rowsOf b s)))
     where
       byte : byteAt (blockAt b (firstBlock b s + q)) i ≡ byteAt b (512 * (firstBlock b s + q) + i)
       byte = block-byte b (firstBlock b s + q) there i (omega arith)
 
-      go : (ltb (127 * q + i / 4) (rowsOf b s) ≡ true) ⊎ (ltb (127 * q + i / 4) (rowsOf b s) ≡ false)
-          → wrongIn (placeBound b s 0) (placeBound b s 1) (placeBound b s 2) (placeBound b s 3) (blockAt b (firstBlock b s + q)) (4 * usedRows (rowsOf b s) q) i
-          ≡ wrongByte b s q i
+      go : (ltb (127 * q + i / 4) (rowsOf b s) ≡ true) ⊎ (ltb (127 * q + i / 4) (rowsOf b s) ≡ false) → seenWrong i ≡ wrongByte b s q i
       go (inl e) = rw (used i p, e, fourth-bound b s (i % 4) (mod-lt i (omega arith)), byte)
       go (inr e) = rw (used i p, e, byte) (set-leb (byteAt b (512 * (firstBlock b s + q) + i)))
 
   -- so a look at the block tells whether it is wrong
-  block-wrong : (r : Bool)
-      → Finds
-      (wrongIn (placeBound b s 0) (placeBound b s 1) (placeBound b s 2) (placeBound b s 3) (blockAt b (firstBlock b s + q)) (4 * usedRows (rowsOf b s) q))
-      0 508 r
-      → r ≡ wrongBlock b s q
+  block-wrong : (r : Bool) → Finds seenWrong 0 508 r → r ≡ wrongBlock b s q
   unfolding wrongBlock
   block-wrong r h = sym (finds-any r (finds-same (λ i l p. same-byte i p) h))
 

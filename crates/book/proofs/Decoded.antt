@@ -1,5 +1,5 @@
 -- An accepted book has nothing wrong in it, and stands for a well-formed book. Assumes nothing.
-use mathlib.Core.Path.{_≡_, sym, ap, _∙_}
+use mathlib.Core.Path.{ap₂, _≡_, sym, ap, _∙_}
 use mathlib.Core.Bool.{true, false}
 use mathlib.Core.Logic.{_⊎_, inl, inr}
 use mathlib.Core.List.{List, [], List·Memᴰ, List·Memᴰ·head, List·Memᴰ·tail, List·Memᴰ·not-nil}
@@ -8,17 +8,17 @@ use native.Mathlib.Omega.{arith}
 use lib.Dec.{eqb}
 use borrow.Author.Tests.{leb-false, eqb-true, eqb-false, lt-ltb}
 use Rattle.model.specs.Books.{WellFormed, WellFormedSheet}
-use Rattle.model.specs.Tests.{NoneIn, lowest, tab}
-use Rattle.model.proofs.Firsts.{any-none, firstIn-none, lowest-firstIn}
+use Rattle.model.specs.Tests.{NoneIn, tab}
+use Rattle.model.proofs.Firsts.{any-none, lowest-firstIn, lowest-none}
 use Rattle.model.proofs.Tests.{below, either, getD-tab, length-tab}
-use Rattle.book.specs.Blocks.{RightChecks, RightLength, blockCount, wrongCheck, wrongLength}
+use Rattle.book.specs.Blocks.{RightChecks, RightLength, blockCount, wrongLength}
 use Rattle.book.specs.Decoding.{AcceptedWellFormed, bookOf, rowOf, sheetOf}
 use Rattle.book.specs.Fields.{byteAt}
-use Rattle.book.specs.Head.{RightHead, columnOf, columnsOf, rowsOf, sheetsOf, valuesOf, widthOf, wrongField}
+use Rattle.book.specs.Head.{RightHead, columnOf, columnsOf, rowsOf, sheetsOf, valuesOf, widthOf}
 use Rattle.book.specs.Rows.{blockOf, blocksNeeded, blocksOf, boundOf, clean, firstBlock, firstFault, placeBound, rowPlace, wrongBlock, wrongByte, wrongSheet}
 use Rattle.book.specs.Verdicts.{Accepted, checkResult, refused}
 use Rattle.book.proofs.Faults.{clean-none, fault-zero}
-use Rattle.book.proofs.Results.{result-blocks, result-check, result-field, result-length, result-row}
+use Rattle.book.proofs.Results.{result-accepted, result-blocks, result-check, result-field, result-length, result-row}
 use Rattle.book.proofs.Right.{column-inside, column-rises, columns-range, few-sheets, rows-most, sheets-most, values-range, width-range}
 
 -- ---- nothing is wrong
@@ -41,19 +41,11 @@ module _ (b : List ℕ) (a : Accepted b) where
       go (inl e) = absurd (refuses b 1 0 a (omega arith) (result-length b e))
       go (inr e) = e
 
-  right2 : NoneIn (wrongCheck b) 0 (blockCount b)
-  right2 = go (below (lowest (blockCount b) (wrongCheck b)) (blockCount b))
-    where
-      go : (lowest (blockCount b) (wrongCheck b) < blockCount b) ⊎ (blockCount b ≤ lowest (blockCount b) (wrongCheck b)) → NoneIn (wrongCheck b) 0 (blockCount b)
-      go (inl l) = absurd (refuses b 2 _ a (omega arith) (result-check b right1 _ (lowest-firstIn (blockCount b)) l))
-      go (inr l) = firstIn-none (lowest-firstIn (blockCount b)) l
+  right2 : RightChecks b
+  right2 = lowest-none (blockCount b) (λ l. refuses b 2 _ a (omega arith) (result-check b right1 _ (lowest-firstIn (blockCount b)) l))
 
   right3 : RightHead b
-  right3 = go (below (lowest 508 (wrongField b)) 508)
-    where
-      go : (lowest 508 (wrongField b) < 508) ⊎ (508 ≤ lowest 508 (wrongField b)) → RightHead b
-      go (inl l) = absurd (refuses b 3 _ a (omega arith) (result-field b right1 right2 _ (lowest-firstIn 508) l))
-      go (inr l) = firstIn-none (lowest-firstIn 508) l
+  right3 = lowest-none 508 (λ l. refuses b 3 _ a (omega arith) (result-field b right1 right2 _ (lowest-firstIn 508) l))
 
   right4 : blocksNeeded b ≡ blockCount b
   right4 = go (either (eqb (blocksNeeded b) (blockCount b)))
@@ -157,6 +149,14 @@ right-formed b h = record {
       let r = tab-mem (sheetsOf b) (sheetOf b) s m in rw (r .2) (sheet-formed b h (r .0) (r .1));
 }
 
--- "an accepted book": the statement of specs/Decoding.antt
+-- the statement of specs/Decoding.antt
 pub acceptedWellFormed : AcceptedWellFormed
-acceptedWellFormed b a = right-formed b (accepted-right b a)
+unfolding bookOf
+acceptedWellFormed b a =
+    let h = accepted-right b a in
+    record {
+      well-formed = right-formed b h;
+      figure =
+          result-accepted b (h .length-right) (h .checks) (h .head) (h .blocks) (h .rows)
+          ∙ sym (ap₂ (λ (c s : ℕ). c * 16 + s) (length-tab (columnsOf b) (valuesOf b)) (length-tab (sheetsOf b) (sheetOf b)));
+    }

@@ -10,7 +10,7 @@ use native.Mathlib.Omega.{arith}
 use lib.Dec.{ltb}
 use borrow.Author.Tests.{lt-ltb, le-ltb}
 use Rattle.model.specs.Tests.{FirstIn, NoneIn, lowest, sum}
-use Rattle.model.proofs.Firsts.{firstIn-end, firstIn-found, firstIn-lowest, firstIn-most, firstIn-none, lowest-firstIn}
+use Rattle.model.proofs.Firsts.{firstIn-found, firstIn-lowest, firstIn-most, lowest-firstIn, lowest-none, none-lowest}
 use Rattle.model.proofs.Tests.{anyBelow-e, anyBelow-i, below, lowest-le, sum-last}
 use Rattle.book.specs.Head.{sheetsOf}
 use Rattle.book.specs.Rows.{blockOf, blocksOf, clean, faultAt, faultInBlock, faultInSheet, firstBlock, firstFault, wrongBlock, wrongByte, wrongSheet}
@@ -54,9 +54,7 @@ module _ (b : List ℕ) where
   -- there is none
   pub fault-none : NoneIn (wrongSheet b) 0 (sheetsOf b) → firstFault b ≡ clean
   unfolding firstFault
-  fault-none h =
-      let e : lowest (sheetsOf b) (wrongSheet b) ≡ sheetsOf b = firstIn-lowest (firstIn-end (omega arith) (le-refl _) (le-refl _) h) in
-      rw (e, le-ltb (sheetsOf b) (sheetsOf b) (le-refl _))
+  fault-none h = rw (none-lowest h, le-ltb (sheetsOf b) (sheetsOf b) (le-refl _))
 
   -- a fault is in no head
   pub fault-zero : blockOf (firstFault b) ≡ 0 → firstFault b ≡ clean
@@ -70,14 +68,12 @@ module _ (b : List ℕ) where
   -- no fault, so no wrong sheet
   pub clean-none : firstFault b ≡ clean → NoneIn (wrongSheet b) 0 (sheetsOf b)
   unfolding wrongSheet firstBlock
-  clean-none e = go (below (lowest (sheetsOf b) (wrongSheet b)) (sheetsOf b))
-    where
-      go : (lowest (sheetsOf b) (wrongSheet b) < sheetsOf b) ⊎ (sheetsOf b ≤ lowest (sheetsOf b) (wrongSheet b)) → NoneIn (wrongSheet b) 0 (sheetsOf b)
-      go (inl l) =
-          let s = lowest (sheetsOf b) (wrongSheet b) in
-          let f = lowest-firstIn {f = wrongSheet b} (sheetsOf b) in
-          let q = anyBelow-e (blocksOf b s) (wrongBlock b s) (f .passes l) in
-          let g = lowest-firstIn {f = wrongBlock b s} (blocksOf b s) in
-          let k : lowest (blocksOf b s) (wrongBlock b s) < blocksOf b s = omega (arith, firstIn-most (q .0) g (omega arith) (q .2), q .1) in
-          absurd (omega (arith, ap blockOf e, fault-found s _ l (f .none) g k))
-      go (inr l) = firstIn-none (lowest-firstIn (sheetsOf b)) l
+  clean-none e =
+      lowest-none (sheetsOf b)
+      (λ l.
+      let s = lowest (sheetsOf b) (wrongSheet b) in
+      let f = lowest-firstIn {f = wrongSheet b} (sheetsOf b) in
+      let q = anyBelow-e (blocksOf b s) (wrongBlock b s) (f .passes l) in
+      let g = lowest-firstIn {f = wrongBlock b s} (blocksOf b s) in
+      let k : lowest (blocksOf b s) (wrongBlock b s) < blocksOf b s = omega (arith, firstIn-most (q .0) g (omega arith) (q .2), q .1) in
+      omega (arith, ap blockOf e, fault-found s _ l (f .none) g k))

@@ -3,13 +3,12 @@ use mathlib.Core.Path.{_≡_, refl, _∙_}
 use mathlib.Core.Bool.{true, false, not}
 use mathlib.Core.List.{List}
 use Prim.Native.Nat.{ℕ, _+_, _*_, _%_, _≤_, _<_}
-use native.Mathlib.Nat.{le-refl}
 use native.Mathlib.Omega.{arith}
 use lib.Dec.{eqb, ltb}
 use lib.ListN.{length}
 use borrow.Author.Tests.{eqb-true, lt-ltb, le-ltb, eq-eqb, ne-eqb, not-false}
 use Rattle.model.specs.Tests.{FirstIn, lowest}
-use Rattle.model.proofs.Firsts.{firstIn-end, firstIn-lowest}
+use Rattle.model.proofs.Firsts.{firstIn-lowest, none-lowest}
 use Rattle.model.proofs.Tests.{or-false-l, or-false-r}
 use Rattle.book.specs.Blocks.{RightChecks, RightLength, blockCount, firstWrongCheck, wrongCheck, wrongLength}
 use Rattle.book.specs.Head.{RightHead, columnsOf, firstWrongField, sheetsOf, wrongField}
@@ -38,9 +37,7 @@ module _ (b : List ℕ) where
     module _ (h2 : RightChecks b) where
       checks : ltb (firstWrongCheck b) (blockCount b) ≡ false
       unfolding firstWrongCheck
-      checks =
-          let e : lowest (blockCount b) (wrongCheck b) ≡ blockCount b = firstIn-lowest (firstIn-end (omega arith) (le-refl _) (le-refl _) h2) in
-          le-ltb (lowest (blockCount b) (wrongCheck b)) (blockCount b) (omega arith)
+      checks = let e = none-lowest h2 in le-ltb (lowest (blockCount b) (wrongCheck b)) (blockCount b) (omega arith)
 
       pub result-field : (i : ℕ) → FirstIn (wrongField b) 0 508 i → i < 508 → checkResult b ≡ refused 3 i
       unfolding checkResult verdict firstWrongField
@@ -49,9 +46,7 @@ module _ (b : List ℕ) where
       module _ (h3 : RightHead b) where
         fields : ltb (firstWrongField b) 508 ≡ false
         unfolding firstWrongField
-        fields =
-            let e : lowest 508 (wrongField b) ≡ 508 = firstIn-lowest (firstIn-end (omega arith) (le-refl _) (le-refl _) h3) in
-            le-ltb (lowest 508 (wrongField b)) 508 (omega arith)
+        fields = let e = none-lowest h3 in le-ltb (lowest 508 (wrongField b)) 508 (omega arith)
 
         pub result-blocks : (blocksNeeded b ≡ blockCount b → ⊥) → checkResult b ≡ refused 4 (blocksNeeded b)
         unfolding checkResult verdict

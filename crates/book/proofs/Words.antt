@@ -20,7 +20,7 @@ use Rattle.book.specs.Fields.{byteAt}
 use Rattle.book.specs.Inner.{anyHigh, belowBounds, joined, overBounds, raisedRow, slackOf}
 
 -- ---- the highest bits of the four bytes of a number
--- bit v of m is the highest of the byte p where p's highest bit ends m / 2 ^ v
+-- the last digit of m / 2 ^ v is the highest bit of the byte p: then bit v of m tells whether p is 128 or more
 high : (v m p t : ℕ) → m / 2 ^ v ≡ t * 2 + p / 128 → p < 256 → bit v m ≡ leb 128 p
 unfolding bit
 high v m p t h l = go (below p 128)
@@ -199,7 +199,7 @@ module _ (block : List ℕ) (bytes : (i : ℕ) → byteAt block i < 256) where
       high-bytes (byteAt block (4 * r)) (byteAt block (4 * r + 1)) (byteAt block (4 * r + 2)) (byteAt block (4 * r + 3)) (bytes _) (bytes _) (bytes _) (bytes _)
 
   module _ (w x y z n : ℕ) (few : (w ≤ 128) × (x ≤ 128) × (y ≤ 128) × (z ≤ 128)) where
-    -- then that row is over its bounds
+    -- a byte of the joined rows is 128 or more: a row is over its bounds
     pub high-found : anyHigh (joined (word block) n) ≡ true → Finds (overBounds w x y z block) 0 n true
     unfolding overBounds
     high-found e =
@@ -209,7 +209,7 @@ module _ (block : List ℕ) (bytes : (i : ℕ) → byteAt block i < 256) where
           some = λ k. (r .0, r .1, r .2, high-over w x y z _ _ _ _ few (sym (row-bytes (r .0)) ∙ r .3));
         }
 
-    -- and otherwise the slack shows which is
+    -- none is: the slack shows whether a row is
     pub raised-found : {t : Bool} → anyHigh (joined (word block) n) ≡ false → Finds (raisedRow (slackOf w x y z) block) 0 n t
         → Finds (overBounds w x y z block) 0 n t
     unfolding overBounds raisedRow

@@ -10,7 +10,7 @@ use Rattle.model.specs.Answers.{wordBytes}
 use Rattle.model.specs.Acceptance.{H}
 use Rattle.book.specs.Blocks.{wrongLength, checkOf}
 use Rattle.book.specs.Head.{wrongField, firstWrongField}
-use Rattle.book.specs.Rows.{blocksNeeded, tooLarge, notZero, fault, firstFault}
+use Rattle.book.specs.Rows.{blocksOf, blocksNeeded, rowPlace, wrongByte, tooLarge, notZero, fault, kindOf, firstFault, blockOf}
 use Rattle.book.specs.Decoding.{bookOf}
 
 -- ---- books as bytes
@@ -64,7 +64,7 @@ pub record HarbourFacts : Type 0 where
   pub check1 : wordBytes (checkOf (padded rows0) 1) ≡ 6 ∷ 2 ∷ 0 ∷ 0 ∷ []
   pub check2 : wordBytes (checkOf (padded rows1) 2) ≡ 4 ∷ 2 ∷ 0 ∷ 0 ∷ []
 
--- "a multiple of 512 from 512 to 16,896"; "carries past 32 bits" are left out, in the sum and where b + 1 is added
+-- "a multiple of 512 from 512 to 16,896"; "every carry past 32 bits" is left out, in the sum and where b + 1 is added; the last word counts
 pub record BlockFacts : Type 0 where
   pub none : wrongLength [] ≡ true
   pub least : wrongLength (replicate 512 0) ≡ false
@@ -73,6 +73,8 @@ pub record BlockFacts : Type 0 where
   pub long : wrongLength (replicate 17408 0) ≡ true
   pub carry : checkOf (255 ∷ 255 ∷ 255 ∷ 255 ∷ 3 ∷ []) 1 ≡ 4
   pub carry-last : checkOf (255 ∷ 255 ∷ 255 ∷ 255 ∷ []) 0 ≡ 0
+  pub bit31 : checkOf (0 ∷ 0 ∷ 0 ∷ 128 ∷ []) 0 ≡ 2147483649
+  pub last-word : checkOf (set (padded []) 504 1) 0 ≡ 2
 
 -- each field of H's head: letters, C, S, zeros, V, width, column numbers, byte 5, rows, an entry from S on, the last zero
 pub record FieldFacts : Type 0 where
@@ -96,14 +98,37 @@ pub record FieldFacts : Type 0 where
   pub high-column : wrongField (set head 26 3) 26 ≡ true
   pub past-width : wrongField (set head 28 1) 28 ≡ true
   pub byte5 : wrongField (set head 29 1) 29 ≡ true
+  pub past-width1 : wrongField (set head 35 1) 35 ≡ true
+  pub byte5-1 : wrongField (set head 37 1) 37 ≡ true
+  pub no-rows : wrongField (set head 30 0) 30 ≡ false
   pub most-rows : wrongField (set (set head 30 252) 31 1) 30 ≡ false
   pub many-rows : wrongField (set (set head 30 253) 31 1) 30 ≡ true
   pub high-byte : wrongField (set (set head 30 253) 31 1) 31 ≡ false
   pub unused-entry : wrongField (set (padded head) 87 1) 87 ≡ true
   pub last-zero : wrongField (set (padded head) 507 1) 507 ≡ true
 
--- 508 rows are four blocks; a value too large and an unused row, what each is and where
+-- a sheet of one column with 128 rows: row 127 is the first of its second block
+abbrev pub long : List ℕ
+long = sealed 0 (set bothHead 30 128 ∷ [] ∷ (1 ∷ 0 ∷ 0 ∷ 0 ∷ 1 ∷ []) ∷ [])
+
+-- blocks at the edges, "508 rows is 4 blocks" among them; where rows stand; a value, a filler and an unused row at their limits, in a second
+-- block too; the first fault, what it is and where, and its block
 pub record RowFacts : Type 0 where
-  pub most-rows : blocksNeeded (set (set head 30 252) 31 1) ≡ 6
+  pub rows0 : blocksOf (set head 30 0) 0 ≡ 0
+  pub rows1 : blocksOf (set head 30 1) 0 ≡ 1
+  pub rows127 : blocksOf (set head 30 127) 0 ≡ 1
+  pub rows128 : blocksOf (set head 30 128) 0 ≡ 2
+  pub rows508 : blocksOf (set (set head 30 252) 31 1) 0 ≡ 4
+  pub needed : blocksNeeded (set (set head 30 252) 31 1) ≡ 6
+  pub last-in-block : rowPlace head 0 126 ≡ 1016
+  pub first-in-next : rowPlace head 0 127 ≡ 1024
+  pub value : wrongByte (both bothRows) 0 0 4 ≡ false
+  pub filler : wrongByte (both (set bothRows 1 1)) 0 0 1 ≡ true
+  pub filler-kind : kindOf bothHead 0 0 1 ≡ notZero
+  pub unused-row : wrongByte (both (set bothRows 8 1)) 0 0 8 ≡ true
+  pub next-block : wrongByte long 0 1 0 ≡ false
+  pub next-unused : wrongByte long 0 1 4 ≡ true
   pub large : firstFault (both (set bothRows 4 2)) ≡ fault 516 tooLarge
   pub unused : firstFault (both (set bothRows 507 1)) ≡ fault 1019 notZero
+  pub block-end : blockOf (fault 1023 notZero) ≡ 1
+  pub block-start : blockOf (fault 1024 notZero) ≡ 2

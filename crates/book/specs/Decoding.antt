@@ -1,12 +1,14 @@
 -- The book that the bytes of an accepted file stand for.
+use mathlib.Core.Path.{_≡_}
 use mathlib.Core.List.{List}
-use Prim.Native.Nat.{ℕ, _+_}
+use Prim.Native.Nat.{ℕ, _+_, _*_}
+use lib.ListN.{length}
+use Rattle.model.specs.Books.{Book, Sheet, WellFormed, columnCount}
 use Rattle.model.specs.Tests.{tab}
-use Rattle.model.specs.Books.{Sheet, Book, WellFormed}
 use Rattle.book.specs.Fields.{byteAt}
-use Rattle.book.specs.Head.{columnsOf, sheetsOf, valuesOf, widthOf, columnOf, rowsOf}
+use Rattle.book.specs.Head.{columnOf, columnsOf, rowsOf, sheetsOf, valuesOf, widthOf}
 use Rattle.book.specs.Rows.{rowPlace}
-use Rattle.book.specs.Verdicts.{Accepted}
+use Rattle.book.specs.Verdicts.{Accepted, checkResult}
 
 -- "A row is 4 bytes: k values …"
 unfoldable pub rowOf : List ℕ → ℕ → ℕ → List ℕ
@@ -18,6 +20,11 @@ sheetOf b s = record { columns = tab (widthOf b s) (columnOf b s); rows = tab (r
 unfoldable pub bookOf : List ℕ → Book
 bookOf b = record { counts = tab (columnsOf b) (valuesOf b); sheets = tab (sheetsOf b) (sheetOf b) }
 
--- an accepted book decodes to a well-formed one: proved in proofs/Decoded.antt
+-- an accepted book decodes to a well-formed one, and its figure is that book's: proved in proofs/Decoded.antt
+pub record AcceptedBook (b : List ℕ) : Type 0 where
+  pub well-formed : WellFormed (bookOf b)
+  -- "Accepted: C × 16 + S."
+  pub figure : checkResult b ≡ columnCount (bookOf b) * 16 + length (bookOf b .sheets)
+
 abbrev pub AcceptedWellFormed : Type 0
-AcceptedWellFormed = (b : List ℕ) → Accepted b → WellFormed (bookOf b)
+AcceptedWellFormed = (b : List ℕ) → Accepted b → AcceptedBook b

@@ -38,9 +38,9 @@ abbrev pub rowsOf : List ℕ → ℕ → ℕ
 rowsOf b s = halfAt b (30 + 8 * s)
 
 -- ---- what is wrong in a field
--- "bytes 0 to 3: the letters FGB1 in ASCII", one field: 70, 71, 66 and 49 as one number
+-- "bytes 0 to 3: the letters FGB1 in ASCII", which are 70, 71, 66 and 49; one field
 unfoldable pub wrongLetters : List ℕ → Bool
-wrongLetters b = not (eqb (wordAt b 0) 826427206)
+wrongLetters b = not (eqb (wordAt b 0) (70 + 71 * 256 + 66 * 65536 + 49 * 16777216))
 
 -- "columns C, 1 to 16"
 unfoldable pub wrongColumns : List ℕ → Bool

@@ -1,5 +1,5 @@
--- The format FGB1 in the words of document 01, in reading order: its fields, its blocks, the head, the rows, the verdict, and the book that
--- the bytes stand for. Nothing here is proved: the laws stand in proofs/.
+-- The format FGB1, in reading order. Fields to Decoding are document 01's words: fields, blocks, the head, the rows, the verdict, and the book
+-- that the bytes stand for. Inner is for those who read the code; Acceptance has worked examples. Nothing here is proved: the laws stand in proofs/.
 pub mod Fields
 pub mod Blocks
 pub mod Head

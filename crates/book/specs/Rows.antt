@@ -54,7 +54,8 @@ pub data RowFault : Type 0 where
   clean : RowFault
   fault : ℕ → Kind → RowFault
 
--- what is wrong at byte j of row r of sheet s, where something is: a value's place is one of the width, in a used row
+-- what is wrong at byte j of row r of sheet s, where something is: in a used row, a place of the width holds a value that is too large;
+-- anywhere else it is a byte that must be zero
 unfoldable pub kindOf : List ℕ → ℕ → ℕ → ℕ → Kind
 kindOf b s r j = cond (ltb r (rowsOf b s) && ltb j (widthOf b s)) tooLarge notZero
 

@@ -4,7 +4,7 @@
 //               127 words of u32     their wrapping sum + n + 1
 use crate::fields::*;
 ghost use mathlib.Core.Path.{_≡_};
-ghost use Prim.Native.Nat.{_+_, _*_, _/_, _%_, _^_, _<_, _≤_};
+ghost use Prim.Native.Nat.{_+_, _*_, _%_, _^_, _<_, _≤_};
 ghost use lib.ListN.{length};
 ghost use Rattle.model.specs.Tests.{sum, FirstIn};
 ghost use Rattle.book.specs.Fields.{wordAt};
@@ -31,7 +31,7 @@ pub fn block(book: &[u8], n: usize) -> &[u8]
     &book[a..e]
 }
 
-// The sum of a block's 128 words, the check among them, without the carries past 32 bits: 128 of them leave the compiler no odd ones.
+// The sum of a block's 128 words, the check among them, without the carries past 32 bits. 128 words leave the compiler none over.
 fn full_sum(b: &[u8]) -> u32
     requires { ⌜ length (now b) ≡ 512 ⌝ }
     ensures { λ r. ⌜ r ≡ sum 128 (word (now (b .entry))) % 2 ^ 32 ⌝ }

@@ -3,7 +3,7 @@ ghost use mathlib.Core.Path.{_≡_};
 ghost use Prim.Native.Nat.{_+_, _*_, _<_, _≤_};
 ghost use lib.ListN.{length};
 ghost use Rattle.model.specs.Tests.{FirstIn, Finds};
-ghost use Rattle.book.specs.Fields.{byteAt, setAt, outOfRange};
+ghost use Rattle.book.specs.Fields.{setAt, outOfRange};
 
 // A byte as an index.
 pub fn wide(x: u8) -> usize
@@ -13,7 +13,7 @@ pub fn wide(x: u8) -> usize
 }
 
 // A byte as a 32-bit number.
-pub fn long(x: u8) -> u32
+pub fn wide32(x: u8) -> u32
     ensures { λ r. ⌜ r ≡ x ⌝ }
 {
     x as u32

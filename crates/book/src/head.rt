@@ -196,7 +196,7 @@ fn first_in_entry(h: &[u8], s: usize) -> usize
     32 + 8 * s
 }
 
-// The entries of the first n sheets, the S of them.
+// The entries of the first n sheets, at most S.
 fn first_in_used(h: &[u8], n: usize) -> usize
     requires { ⌜ (512 ≤ length (now h)) × (n ≤ 8) × (n ≤ sheetsOf (now h)) ⌝ }
     ensures { λ r. ⌜ FirstIn (wrongField (now (h .entry))) 24 (24 + 8 * n) r ⌝ }

@@ -1,8 +1,8 @@
 // The rows of the sheets: how many blocks they need, and the first block with a wrong byte.
 //
 // Every byte of a row has a bound that it must be below: V at the place of a value, 1 at a byte that must be zero. Rows are looked at as
-// 32-bit numbers. First all are joined by `|`: where that is below the bounds, every row is. Otherwise 128 less its bound is added to each
-// byte, and one that is not below its bound shows in its highest bit:
+// 32-bit numbers. First all are joined by `|`: where that is below the bounds, every row is. A byte of 128 or more in it is over every bound.
+// Otherwise 128 less its bound is added to each byte, and one that is not below its bound shows in its highest bit:
 //
 //     row     x0      x1      x2      x3          each below 128, so none carries into the next
 //     slack   128-w   128-x   128-y   128-z
@@ -11,8 +11,8 @@ use crate::blocks::*;
 use crate::fields::*;
 use crate::head::*;
 ghost use mathlib.Core.Path.{_≡_};
-ghost use Prim.Native.Nat.{ℕ, _+_, _*_, _/_, _%_, _-_, _<_, _≤_};
-ghost use lib.ListN.{length, getD};
+ghost use Prim.Native.Nat.{_+_, _*_, _/_, _%_, _-_, _<_, _≤_};
+ghost use lib.ListN.{length};
 ghost use Rattle.model.specs.Tests.{FirstIn, Finds};
 ghost use Rattle.book.specs.Blocks.{word};
 ghost use Rattle.book.specs.Head.{sheetsOf, RightHead};
@@ -52,11 +52,11 @@ pub fn blocks_needed(h: &[u8]) -> usize
 // ---- the bounds of a sheet's rows
 
 // What the four bytes of a used row have to be below.
-pub struct Bounds {
-    pub w: u8,
-    pub x: u8,
-    pub y: u8,
-    pub z: u8,
+struct Bounds {
+    w: u8,
+    x: u8,
+    y: u8,
+    z: u8,
 }
 
 // What byte j of a used row of sheet s, one of the S, has to be below.
@@ -105,16 +105,16 @@ fn joined_rows(b: &[u8]) -> u32
 fn below_bounds(v: u32, m: Bounds) -> bool
     ensures { λ r. ⌜ r ≡ belowBounds (m .w) (m .x) (m .y) (m .z) v ⌝ }
 {
-    if v % 256 >= long(m.w) {
+    if v % 256 >= wide32(m.w) {
         return false;
     }
-    if v / 256 % 256 >= long(m.x) {
+    if v / 256 % 256 >= wide32(m.x) {
         return false;
     }
-    if v / 65536 % 256 >= long(m.y) {
+    if v / 65536 % 256 >= wide32(m.y) {
         return false;
     }
-    v / 16777216 < long(m.z)
+    v / 16777216 < wide32(m.z)
 }
 
 // Whether one of the four bytes of v is 128 or more.
@@ -149,7 +149,8 @@ fn any_raised(b: &[u8], k: u32) -> bool
     any_high(high)
 }
 
-// Whether a row of a block has a byte that is not below its bound. Where the joined rows are below, so is every row: mostly that is all.
+// Whether a row of a block has a byte that is not below its bound. Where the joined rows are below, so is every row, and where every V is a
+// power of two that settles a right block. A byte of 128 or more is over every bound.
 fn any_over(b: &[u8], m: Bounds) -> bool
     requires { ⌜ (length (now b) ≡ 512) × SmallBounds (m .w) (m .x) (m .y) (m .z) ⌝ }
     ensures { λ r. ⌜ Finds (overBounds (m .w) (m .x) (m .y) (m .z) (now (b .entry))) 0 127 r ⌝ }
@@ -195,7 +196,7 @@ fn wrong_block(book: &[u8], m: Bounds, s: usize, first: usize, q: usize) -> bool
 }
 
 // The first wrong block of sheet s, counted from its first, or the number of its blocks.
-fn first_in_sheet(book: &[u8], m: Bounds, s: usize, first: usize) -> usize
+fn first_in_blocks(book: &[u8], m: Bounds, s: usize, first: usize) -> usize
     requires { ⌜ BoundedSheet (now book) s first (m .w) (m .x) (m .y) (m .z) ⌝ }
     ensures { λ r. ⌜ FirstIn (wrongBlock (now (book .entry)) s) 0 (blocksOf (now (book .entry)) s) r ⌝ }
 {
@@ -210,15 +211,15 @@ fn first_in_sheet(book: &[u8], m: Bounds, s: usize, first: usize) -> usize
     q
 }
 
-// The same; a sheet without rows has no bounds to look up.
-fn first_in_rows(book: &[u8], s: usize, first: usize) -> usize
+// The same, with the bounds looked up; a sheet without rows needs none.
+fn first_in_sheet(book: &[u8], s: usize, first: usize) -> usize
     requires { ⌜ SheetThere (now book) s × RightHead (now book) × (s < sheetsOf (now book)) × (first ≡ firstBlock (now book) s) ⌝ }
     ensures { λ r. ⌜ FirstIn (wrongBlock (now (book .entry)) s) 0 (blocksOf (now (book .entry)) s) r ⌝ }
 {
     if rows(book, s) == 0 {
         return 0;
     }
-    first_in_sheet(book, bounds_of(book, s), s, first)
+    first_in_blocks(book, bounds_of(book, s), s, first)
 }
 
 // The block of the first fault of the rows, or 0. The head is right, and the blocks that it needs are there.
@@ -231,7 +232,7 @@ pub fn fault_block(book: &[u8]) -> usize
     let mut s: usize = 0;
     while s < n {
         let blocks = blocks_of(book, s);
-        let q = first_in_rows(book, s, first);
+        let q = first_in_sheet(book, s, first);
         if q < blocks {
             return first + q;
         }

@@ -3,6 +3,7 @@ use mathlib.Core.Path.{_≡_, refl, sym, ap, _∙_}
 use mathlib.Core.Bool.{Bool, true, false, _||_, false≢true}
 use mathlib.Core.Logic.{_⊎_, inl, inr}
 use Prim.Native.Nat.{ℕ, _+_, _*_, _/_, _%_, _≤_, _<_}
+use native.Mathlib.Nat.{le-refl}
 use native.Mathlib.Omega.{arith}
 use Rattle.model.specs.Tests.{Finds, FirstIn, NoneIn, anyBelow, lowest}
 use Rattle.model.proofs.Tests.{anyBelow-i, anyBelow-none, below, either, lowest-before, lowest-e, lowest-le, or-e, or-false-l, or-false-r}
@@ -76,6 +77,17 @@ module _ {f : ℕ → Bool} where
 
   pub firstIn-lowest : {n r : ℕ} → FirstIn f 0 n r → lowest n f ≡ r
   firstIn-lowest {n} h = firstIn-only (lowest-firstIn n) h
+
+  -- nothing passes exactly when the lowest is the bound
+  pub none-lowest : {n : ℕ} → NoneIn f 0 n → lowest n f ≡ n
+  none-lowest {n} h = firstIn-lowest (firstIn-end (omega arith) (le-refl n) (le-refl n) h)
+
+  pub lowest-none : (n : ℕ) → (lowest n f < n → ⊥) → NoneIn f 0 n
+  lowest-none n h = go (below (lowest n f) n)
+    where
+      go : (lowest n f < n) ⊎ (n ≤ lowest n f) → NoneIn f 0 n
+      go (inl l) = absurd (h l)
+      go (inr l) = firstIn-none (lowest-firstIn n) l
 
   -- ---- the same as a test
   pub none-any : {n : ℕ} → NoneIn f 0 n → anyBelow n f ≡ false

@@ -5,4 +5,15 @@ use Rattle.service.specs.Acceptance.{CheckFacts}
 
 pub checkFacts : CheckFacts
 unfolding computing
-checkFacts = record { harbour-accepted = refl; tiny-accepted = refl; empty = refl; short = refl; second-check = refl; many-values = refl; block-too-many = refl; large-value = refl }
+checkFacts = record {
+  harbour-accepted = refl;
+  tiny-accepted = refl;
+  empty = refl;
+  short = refl;
+  second-check = refl;
+  many-values = refl;
+  rows-509 = refl;
+  last-zero = refl;
+  block-too-many = refl;
+  large-value = refl;
+}

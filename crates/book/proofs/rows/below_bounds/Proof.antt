@@ -6,8 +6,8 @@ use Rattle.book.specs.Inner.{belowBounds}
 use Rattle.book.proofs.rows.below_bounds.Statement.{statement}
 use Rattle.book.proofs.rows.below_bounds.Tie as tie
 
-long-requires : tie.Need-long-requires
-long-requires c κs = search needs
+wide32-requires : tie.Need-wide32-requires
+wide32-requires c κs = search needs
 
 returns : tie.Need-returns
 unfolding belowBounds
@@ -15,8 +15,8 @@ returns c = let k = c .before .before .args in
     let p : k .m .w ≤ k .v % 256 = omega arith in
     rw (le-ltb _ _ p)
 
-long-requires-2 : tie.Need-long-requires-2
-long-requires-2 c κs = search needs
+wide32-requires-2 : tie.Need-wide32-requires-2
+wide32-requires-2 c κs = search needs
 
 returns-2 : tie.Need-returns-2
 unfolding belowBounds
@@ -25,8 +25,8 @@ returns-2 c = let k = c .before .before .before .before .args in
     let q : k .m .x ≤ k .v / 256 % 256 = omega arith in
     rw (lt-ltb _ _ p, le-ltb _ _ q)
 
-long-requires-3 : tie.Need-long-requires-3
-long-requires-3 c κs = search needs
+wide32-requires-3 : tie.Need-wide32-requires-3
+wide32-requires-3 c κs = search needs
 
 returns-3 : tie.Need-returns-3
 unfolding belowBounds
@@ -36,8 +36,8 @@ returns-3 c = let k = c .before .before .before .before .before .before .args in
     let r : k .m .y ≤ k .v / 65536 % 256 = omega arith in
     rw (lt-ltb _ _ p, lt-ltb _ _ q, le-ltb _ _ r)
 
-long-requires-4 : tie.Need-long-requires-4
-long-requires-4 c κs = search needs
+wide32-requires-4 : tie.Need-wide32-requires-4
+wide32-requires-4 c κs = search needs
 
 returns-4 : tie.Need-returns-4
 unfolding belowBounds
@@ -45,17 +45,17 @@ returns-4 c = let k = c .before .before .before .before .before .before .before 
     let p : k .v % 256 < k .m .w = omega arith in
     let q : k .v / 256 % 256 < k .m .x = omega arith in
     let r : k .v / 65536 % 256 < k .m .y = omega arith in
-    rw (lt-ltb _ _ p, lt-ltb _ _ q, lt-ltb _ _ r, c .long4 .ensures)
+    rw (lt-ltb _ _ p, lt-ltb _ _ q, lt-ltb _ _ r, c .wide324 .ensures)
 
 pub below-bounds-spec : {M : Type 1} → statement M
 below-bounds-spec =
     tie.close
     (tie.spec
-    long-requires
+    wide32-requires
     returns
-    long-requires-2
+    wide32-requires-2
     returns-2
-    long-requires-3
+    wide32-requires-3
     returns-3
-    long-requires-4
+    wide32-requires-4
     returns-4)

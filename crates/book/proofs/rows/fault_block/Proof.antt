@@ -27,9 +27,9 @@ loop-holds c = (search needs, sym (firstBlock-zero _), none-empty (le-refl _))
 blocks-of-requires : tie.Need-blocks-of-requires Inv-loop μ-loop
 blocks-of-requires c κs = let k = c .before .before .before .before in (search needs, omega (arith, sheets-most (k .args .book .now) (k .pre .1)))
 
-first-in-rows-requires : tie.Need-first-in-rows-requires Inv-loop μ-loop
+first-in-sheet-requires : tie.Need-first-in-sheet-requires Inv-loop μ-loop
 unfolding blocksNeeded
-first-in-rows-requires c κs = let l = c .before .before in
+first-in-sheet-requires c κs = let l = c .before .before in
     let k = l .before .before .before in
     let b = k .args .book .now in
     let p : l .loop .s < sheetsOf b = omega arith in
@@ -47,8 +47,8 @@ unfolding blocksNeeded
 returns c = let l = c .before .before .before .before in
     let b = l .before .before .before .args .book .now in
     let p : l .loop .s < sheetsOf b = omega arith in
-    let q : c .before .first-in-rows .result < blocksOf b (l .loop .s) = omega arith in
-    (rw (l .loop .inv .1) (sym (fault-found b (l .loop .s) _ p (l .loop .inv .2) (c .before .first-in-rows .ensures) q)), omega (arith, firstBlock-later b (l .loop .s) (sheetsOf b) p))
+    let q : c .before .first-in-sheet .result < blocksOf b (l .loop .s) = omega arith in
+    (rw (l .loop .inv .1) (sym (fault-found b (l .loop .s) _ p (l .loop .inv .2) (c .before .first-in-sheet .ensures) q)), omega (arith, firstBlock-later b (l .loop .s) (sheetsOf b) p))
 
 add-first : tie.Need-add-first Inv-loop μ-loop
 unfolding blocksNeeded
@@ -67,8 +67,8 @@ loop-again : tie.Need-loop-again Inv-loop μ-loop
 unfolding wrongSheet
 loop-again c = let l = c .before .before .before .before in
     let b = l .before .before .before .args .book .now in
-    let q : blocksOf b (l .loop .s) ≤ c .before .first-in-rows .result = omega arith in
-    (search needs, rw (l .loop .inv .1, c .before .before .blocks-of .ensures .0) (sym (firstBlock-more b (l .loop .s))), none-more (l .loop .inv .2) (none-any (firstIn-none (c .before .first-in-rows .ensures) q)))
+    let q : blocksOf b (l .loop .s) ≤ c .before .first-in-sheet .result = omega arith in
+    (search needs, rw (l .loop .inv .1, c .before .before .blocks-of .ensures .0) (sym (firstBlock-more b (l .loop .s))), none-more (l .loop .inv .2) (none-any (firstIn-none (c .before .first-in-sheet .ensures) q)))
 
 returns-2 : tie.Need-returns-2 Inv-loop μ-loop
 returns-2 c = let b = c .before .before .before .before .args .book .now in
@@ -84,7 +84,7 @@ fault-block-spec =
     sheets-requires
     loop-holds
     blocks-of-requires
-    first-in-rows-requires
+    first-in-sheet-requires
     add-result
     returns
     add-first

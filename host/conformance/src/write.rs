@@ -35,7 +35,8 @@ fn write_entry(sheet: &Sheet, entry: &mut [u8]) {
     assert!(width <= 4);
     entry[0] = width as u8;
     entry[1..1 + width].copy_from_slice(&sheet.columns);
-    entry[6..].copy_from_slice(&(sheet.rows.len() as u16).to_le_bytes());
+    let rows = u16::try_from(sheet.rows.len()).expect("a row count is two bytes");
+    entry[6..].copy_from_slice(&rows.to_le_bytes());
 }
 
 /// One more block, of these rows.

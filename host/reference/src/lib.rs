@@ -1,4 +1,5 @@
-//! An independent version of the book check, written from document 01 alone.
+//! An independent version of the book check, written from document 01 and the readings of it in
+//! `docs/DECISIONS.md`, and from nothing else.
 //!
 //! It is meant to be read beside that document: each piece stands under the sentence that it
 //! states. Where slow is plainer it is slow, and it shares nothing with any other crate.

@@ -24,6 +24,16 @@ fn changed(book: &Book, changes: &[(usize, u8)]) -> Vec<u8> {
     bytes
 }
 
+/// Bytes of the harbour book with their new values, and the number that it then gives.
+type Case = (&'static [(usize, u8)], u64);
+
+fn harbour_gives(cases: &[Case]) {
+    for &(changes, number) in cases {
+        let bytes = changed(&harbour(), changes);
+        assert_eq!(agreed(&bytes), number, "changed {changes:?}");
+    }
+}
+
 /// So many blocks of one byte, with right checks.
 fn filled(blocks: usize, value: u8) -> Vec<u8> {
     let mut bytes = vec![value; blocks * BLOCK];
@@ -89,7 +99,7 @@ fn row_counts_and_blocks() {
 
 #[test]
 fn head_fields() {
-    let cases: [(&[(usize, u8)], u64); 28] = [
+    let cases: [Case; 28] = [
         (&[(0, b'f')], refused(3, 0)),
         (&[(3, b'2')], refused(3, 0)),
         (&[(4, 0)], refused(3, 4)),
@@ -119,13 +129,7 @@ fn head_fields() {
         (&[(87, 1)], refused(3, 87)),
         (&[(507, 1)], refused(3, 507)),
     ];
-    for (changes, number) in cases {
-        assert_eq!(
-            agreed(&changed(&harbour(), changes)),
-            number,
-            "changed {changes:?}"
-        );
-    }
+    harbour_gives(&cases);
 }
 
 #[test]
@@ -144,7 +148,7 @@ fn the_widest_head() {
 #[test]
 fn rows_of_harbour() {
     // Width has V 3, motor 2, board 2; sheet 0 is block 1 with 4 rows, sheet 1 is block 2 with 3.
-    let cases: [(&[(usize, u8)], u64); 12] = [
+    let cases: [Case; 12] = [
         (&[(512, 2), (513, 1)], 50),
         (&[(512, 3)], refused(5, 1)),
         (&[(513, 2)], refused(5, 1)),
@@ -158,13 +162,7 @@ fn rows_of_harbour() {
         (&[(1_531, 128)], refused(5, 2)),
         (&[(1_531, 1), (1_019, 1)], refused(5, 1)),
     ];
-    for (changes, number) in cases {
-        assert_eq!(
-            agreed(&changed(&harbour(), changes)),
-            number,
-            "changed {changes:?}"
-        );
-    }
+    harbour_gives(&cases);
 }
 
 #[test]

@@ -1,4 +1,6 @@
 use mathlib.Core.Path.{sym, _∙_}
+use Prim.Native.Nat.{_≤_, _<_}
+use native.Mathlib.Omega.{arith}
 use borrow.Author.Needs.{needs}
 use Rattle.model.proofs.Firsts.{firstIn-none}
 use Rattle.book.proofs.Results.{head-there, result-field}
@@ -12,11 +14,18 @@ refusal-requires : tie.Need-refusal-requires
 refusal-requires c κs = search needs
 
 returns : tie.Need-returns
-returns c = let k = c .before .before .before .before in
-    c .refusal .ensures ∙ sym (result-field _ (k .pre .0) (k .pre .1) _ (c .before .before .first-wrong-field .ensures) (c .before .if1 .taken))
+returns c =
+    let f = c .before .before .first-wrong-field in
+    let k = c .before .before .before .before in
+    let l : f .result < 508 = omega arith in
+    c .refusal .ensures ∙ sym (result-field _ (k .pre .0) (k .pre .1) _ (f .ensures) l)
 
 check-rows-requires : tie.Need-check-rows-requires
-check-rows-requires c κs = let k = c .before .before .before in (k .pre .0, k .pre .1, firstIn-none (c .before .first-wrong-field .ensures) (c .if1 .left))
+check-rows-requires c κs =
+    let f = c .before .first-wrong-field in
+    let k = c .before .before .before in
+    let l : 508 ≤ f .result = omega arith in
+    (k .pre .0, k .pre .1, firstIn-none (f .ensures) l)
 
 returns-2 : tie.Need-returns-2
 returns-2 c = search needs

@@ -34,24 +34,21 @@ module _ (b : List ℕ) where
   unfolding wrongField
   field-sheets = refl
 
-  pub field-zero : (i : ℕ) → 6 ≤ i → i < 8 → wrongField b i ≡ setAt b i
+  -- past the letters, C and S
+  later : (i : ℕ) → 6 ≤ i
+      → wrongField b i
+      ≡ cond (ltb i 8) (setAt b i) (cond (ltb i 24) (wrongValues b (i - 8)) (cond (ltb i 88) (wrongEntry b ((i - 24) / 8) ((i - 24) % 8)) (setAt b i)))
   unfolding wrongField
-  field-zero i p q =
-      rw (ne-eqb i 0 (λ e. omega arith), le-ltb i 4 (omega arith), ne-eqb i 4 (λ e. omega arith), ne-eqb i 5 (λ e. omega arith), lt-ltb i 8 q)
+  later i p = rw (ne-eqb i 0 (λ e. omega arith), le-ltb i 4 (omega arith), ne-eqb i 4 (λ e. omega arith), ne-eqb i 5 (λ e. omega arith))
+
+  pub field-zero : (i : ℕ) → 6 ≤ i → i < 8 → wrongField b i ≡ setAt b i
+  field-zero i p q = later i p ∙ rw (lt-ltb i 8 q)
 
   -- no field of the front
   past : (i : ℕ) → 8 ≤ i
       → wrongField b i
       ≡ cond (ltb i 24) (wrongValues b (i - 8)) (cond (ltb i 88) (wrongEntry b ((i - 24) / 8) ((i - 24) % 8)) (setAt b i))
-  unfolding wrongField
-  past i p =
-      rw (
-        ne-eqb i 0 (λ e. omega arith),
-        le-ltb i 4 (omega arith),
-        ne-eqb i 4 (λ e. omega arith),
-        ne-eqb i 5 (λ e. omega arith),
-        le-ltb i 8 p,
-      )
+  past i p = later i (omega arith) ∙ rw (le-ltb i 8 p)
 
   pub field-values : (c : ℕ) → c < 16 → wrongField b (8 + c) ≡ wrongValues b c
   field-values c p =

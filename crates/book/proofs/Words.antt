@@ -11,10 +11,10 @@ use lib.Dec.{eqb, ltb, leb}
 use lib.Bits.{bitOr, or-add-and, and-le-l, and-le-r, or-lt, or-block}
 use borrow.Author.Tests.{ltb-true, leb-true, leb-false, le-leb, lt-leb}
 use Rattle.model.specs.Masks.{bit}
-use Rattle.model.specs.Tests.{Finds, NoneIn, sum}
+use Rattle.model.specs.Tests.{Finds, NoneIn}
 use Rattle.model.proofs.Firsts.{finds-empty, finds-more, finds-same}
 use Rattle.model.proofs.Masks.{bit-or}
-use Rattle.model.proofs.Tests.{and-l, and-r, below, or-e, or-false-l, or-false-r, or-l, or-r, or-swap}
+use Rattle.model.proofs.Tests.{and-l, and-r, below, or-false-l, or-false-r, or-mono, or-swap}
 use Rattle.book.specs.Blocks.{word}
 use Rattle.book.specs.Fields.{byteAt}
 use Rattle.book.specs.Inner.{anyHigh, belowBounds, joined, overBounds, raisedRow, slackOf}
@@ -57,10 +57,10 @@ pub joined-more : (f : ℕ → ℕ) (i seen v : ℕ) → seen ≡ joined f i →
 unfolding joined
 joined-more f i seen v hs hv = rw (hs, hv, add-one)
 
-pub raised-more : (block : List ℕ) (k i seen row sum : ℕ) → row ≡ word block i → sum ≡ (row + k) % 2 ^ 32
-    → anyHigh (bitOr seen sum) ≡ (anyHigh seen || raisedRow k block i)
+pub raised-more : (block : List ℕ) (k i seen row lifted : ℕ) → row ≡ word block i → lifted ≡ (row + k) % 2 ^ 32
+    → anyHigh (bitOr seen lifted) ≡ (anyHigh seen || raisedRow k block i)
 unfolding raisedRow
-raised-more block k i seen row sum hr hs = rw (high-or seen sum, hs, hr)
+raised-more block k i seen row lifted hr hs = rw (high-or seen lifted, hs, hr)
 
 -- ---- a row beside its bounds
 -- the slack brings a byte to 128 or more exactly when it is not below its bound
@@ -84,22 +84,10 @@ module _ (w x y z p q r s : ℕ) (few : (w ≤ 128) × (x ≤ 128) × (y ≤ 128
 
   -- a byte is 128 or more: it is not below its bound
   high-over : (leb 128 p || (leb 128 q || (leb 128 r || leb 128 s))) ≡ true → (leb w p || (leb x q || (leb y r || leb z s))) ≡ true
-  high-over e = go (or-e (leb 128 p) _ e)
+  high-over e = or-mono (up w p (few .0)) (or-mono (up x q (few .1)) (or-mono (up y r (few .2)) (up z s (few .3)))) e
     where
       up : (v u : ℕ) → v ≤ 128 → leb 128 u ≡ true → leb v u ≡ true
       up v u h k = le-leb v u (omega (arith, leb-true 128 u k))
-
-      last : (leb 128 r ≡ true) ⊎ (leb 128 s ≡ true) → (leb y r || leb z s) ≡ true
-      last (inl a) = or-l (leb y r) _ (up y r (few .2) a)
-      last (inr a) = or-r (leb y r) _ (up z s (few .3) a)
-
-      rest : (leb 128 q ≡ true) ⊎ ((leb 128 r || leb 128 s) ≡ true) → (leb x q || (leb y r || leb z s)) ≡ true
-      rest (inl a) = or-l (leb x q) _ (up x q (few .1) a)
-      rest (inr a) = or-r (leb x q) _ (last (or-e (leb 128 r) _ a))
-
-      go : (leb 128 p ≡ true) ⊎ ((leb 128 q || (leb 128 r || leb 128 s)) ≡ true) → (leb w p || (leb x q || (leb y r || leb z s))) ≡ true
-      go (inl a) = or-l (leb w p) _ (up w p (few .0) a)
-      go (inr a) = or-r (leb w p) _ (rest (or-e (leb 128 q) _ a))
 
 -- ---- numbers joined by `|`
 le-or-l : (u v : ℕ) → u ≤ bitOr u v
@@ -151,35 +139,42 @@ below-each w x y z a b c d ha hb hc e =
 
 -- ---- the rows of a block
 module _ (block : List ℕ) (bytes : (i : ℕ) → byteAt block i < 256) where
-  joined-word : (n : ℕ)
-      → joined (word block) n
-      ≡ joined (λ r. byteAt block (4 * r)) n + joined (λ r. byteAt block (4 * r + 1)) n * 256
-      + joined (λ r. byteAt block (4 * r + 2)) n * 65536 + joined (λ r. byteAt block (4 * r + 3)) n * 16777216
+  -- the bytes at each place of the rows
+  abbrev at0 : ℕ → ℕ
+  at0 r = byteAt block (4 * r)
+
+  abbrev at1 : ℕ → ℕ
+  at1 r = byteAt block (4 * r + 1)
+
+  abbrev at2 : ℕ → ℕ
+  at2 r = byteAt block (4 * r + 2)
+
+  abbrev at3 : ℕ → ℕ
+  at3 r = byteAt block (4 * r + 3)
+
+  -- joined rows are their bytes joined, place by place
+  joined-word : (n : ℕ) → joined (word block) n ≡ joined at0 n + joined at1 n * 256 + joined at2 n * 65536 + joined at3 n * 16777216
   unfolding joined
   joined-word zero = refl
   joined-word (suc n) =
       rw (joined-word n)
-      (or-word (joined (λ r. byteAt block (4 * r)) n) (joined (λ r. byteAt block (4 * r + 1)) n) (joined (λ r. byteAt block (4 * r + 2)) n)
-      (joined (λ r. byteAt block (4 * r + 3)) n) (byteAt block (4 * n)) (byteAt block (4 * n + 1)) (byteAt block (4 * n + 2)) (byteAt block (4 * n + 3))
-      (joined-lt (λ r. byteAt block (4 * r)) n (λ r. bytes _)) (joined-lt (λ r. byteAt block (4 * r + 1)) n (λ r. bytes _))
-      (joined-lt (λ r. byteAt block (4 * r + 2)) n (λ r. bytes _)) (bytes _) (bytes _) (bytes _))
+      (or-word (joined at0 n) (joined at1 n) (joined at2 n) (joined at3 n) (at0 n) (at1 n) (at2 n) (at3 n)
+      (joined-lt at0 n (λ r. bytes _)) (joined-lt at1 n (λ r. bytes _)) (joined-lt at2 n (λ r. bytes _)) (bytes _) (bytes _) (bytes _))
 
   -- the joined rows are below the bounds: so is every row
   pub joined-below : (w x y z n : ℕ) → belowBounds w x y z (joined (word block) n) ≡ true → NoneIn (overBounds w x y z block) 0 n
   unfolding overBounds
   joined-below w x y z n e =
       let h =
-      below-each w x y z (joined (λ r. byteAt block (4 * r)) n) (joined (λ r. byteAt block (4 * r + 1)) n)
-      (joined (λ r. byteAt block (4 * r + 2)) n) (joined (λ r. byteAt block (4 * r + 3)) n)
-      (joined-lt (λ r. byteAt block (4 * r)) n (λ r. bytes _)) (joined-lt (λ r. byteAt block (4 * r + 1)) n (λ r. bytes _))
-      (joined-lt (λ r. byteAt block (4 * r + 2)) n (λ r. bytes _)) (rw (joined-word n) at e) in
+      below-each w x y z (joined at0 n) (joined at1 n) (joined at2 n) (joined at3 n)
+      (joined-lt at0 n (λ r. bytes _)) (joined-lt at1 n (λ r. bytes _)) (joined-lt at2 n (λ r. bytes _)) (rw (joined-word n) at e) in
       record {
         at = λ r l p.
             rw (
-              lt-leb w (byteAt block (4 * r)) (omega (arith, h .0, joined-le (λ k. byteAt block (4 * k)) n r p)),
-              lt-leb x (byteAt block (4 * r + 1)) (omega (arith, h .1, joined-le (λ k. byteAt block (4 * k + 1)) n r p)),
-              lt-leb y (byteAt block (4 * r + 2)) (omega (arith, h .2, joined-le (λ k. byteAt block (4 * k + 2)) n r p)),
-              lt-leb z (byteAt block (4 * r + 3)) (omega (arith, h .3, joined-le (λ k. byteAt block (4 * k + 3)) n r p)),
+              lt-leb w (at0 r) (omega (arith, h .0, joined-le at0 n r p)),
+              lt-leb x (at1 r) (omega (arith, h .1, joined-le at1 n r p)),
+              lt-leb y (at2 r) (omega (arith, h .2, joined-le at2 n r p)),
+              lt-leb z (at3 r) (omega (arith, h .3, joined-le at3 n r p)),
             );
       }
 
@@ -191,12 +186,8 @@ module _ (block : List ℕ) (bytes : (i : ℕ) → byteAt block i < 256) where
       rw (high-or (joined (word block) n) (word block n))
       (rw add-one at (finds-more (anyHigh (joined (word block) n)) (omega arith) (joined-high n)))
 
-  row-bytes : (r : ℕ)
-      → anyHigh (word block r)
-      ≡ (leb 128 (byteAt block (4 * r))
-      || (leb 128 (byteAt block (4 * r + 1)) || (leb 128 (byteAt block (4 * r + 2)) || leb 128 (byteAt block (4 * r + 3)))))
-  row-bytes r =
-      high-bytes (byteAt block (4 * r)) (byteAt block (4 * r + 1)) (byteAt block (4 * r + 2)) (byteAt block (4 * r + 3)) (bytes _) (bytes _) (bytes _) (bytes _)
+  row-bytes : (r : ℕ) → anyHigh (word block r) ≡ (leb 128 (at0 r) || (leb 128 (at1 r) || (leb 128 (at2 r) || leb 128 (at3 r))))
+  row-bytes r = high-bytes (at0 r) (at1 r) (at2 r) (at3 r) (bytes _) (bytes _) (bytes _) (bytes _)
 
   module _ (w x y z n : ℕ) (few : (w ≤ 128) × (x ≤ 128) × (y ≤ 128) × (z ≤ 128)) where
     -- a byte of the joined rows is 128 or more: a row is over its bounds
@@ -218,8 +209,7 @@ module _ (block : List ℕ) (bytes : (i : ℕ) → byteAt block i < 256) where
         same : (r : ℕ) → r < n → raisedRow (slackOf w x y z) block r ≡ overBounds w x y z block r
         same r p =
             let low = sym (row-bytes r) ∙ joined-high n .none e .at r (omega arith) p in
-            let low1 = or-false-r (leb 128 (byteAt block (4 * r))) _ low in
-            let low2 = or-false-r (leb 128 (byteAt block (4 * r + 1))) _ low1 in
-            raised-bytes w x y z (byteAt block (4 * r)) (byteAt block (4 * r + 1)) (byteAt block (4 * r + 2)) (byteAt block (4 * r + 3)) few
-            (leb-false 128 _ (or-false-l _ _ low)) (leb-false 128 _ (or-false-l _ _ low1))
-            (leb-false 128 _ (or-false-l _ _ low2)) (leb-false 128 _ (or-false-r (leb 128 (byteAt block (4 * r + 2))) _ low2))
+            let low1 = or-false-r (leb 128 (at0 r)) _ low in
+            let low2 = or-false-r (leb 128 (at1 r)) _ low1 in
+            raised-bytes w x y z (at0 r) (at1 r) (at2 r) (at3 r) few (leb-false 128 _ (or-false-l _ _ low)) (leb-false 128 _ (or-false-l _ _ low1))
+            (leb-false 128 _ (or-false-l _ _ low2)) (leb-false 128 _ (or-false-r (leb 128 (at2 r)) _ low2))

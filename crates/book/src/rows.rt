@@ -149,8 +149,7 @@ fn any_raised(b: &[u8], k: u32) -> bool
     any_high(high)
 }
 
-// Whether a row of a block has a byte that is not below its bound. Where the joined rows are below, so is every row, and where every V is a
-// power of two that settles a right block. A byte of 128 or more is over every bound.
+// Whether a row of a block has a byte that is not below its bound. Of a right block whose V are all powers of two the first test is enough.
 fn any_over(b: &[u8], m: Bounds) -> bool
     requires { ⌜ (length (now b) ≡ 512) × SmallBounds (m .w) (m .x) (m .y) (m .z) ⌝ }
     ensures { λ r. ⌜ Finds (overBounds (m .w) (m .x) (m .y) (m .z) (now (b .entry))) 0 127 r ⌝ }

@@ -9,8 +9,8 @@ use native.Mathlib.Omega.{arith}
 use lib.Dec.{eqb, ltb}
 use lib.ListN.{length, getD, List·getD-eq-default}
 use lib.Seq.{ext-getD}
-use borrow.Author.Tests.{eqb-true, eq-eqb, ltb-true, ltb-false}
-use Rattle.model.specs.Tests.{allBelow, anyBelow, allIn, anyIn, oneIf, sum, count, lowest, eqList, tab}
+use borrow.Author.Tests.{ltb-true, ltb-false, eqb-true, eq-eqb}
+use Rattle.model.specs.Tests.{allBelow, allIn, anyBelow, anyIn, count, eqList, lowest, oneIf, sum, tab}
 
 -- ---- `&&`, `||`
 pub and-l : (a b : Bool) → (a && b) ≡ true → a ≡ true
@@ -34,6 +34,14 @@ or-l a b p = cc
 pub or-r : (a b : Bool) → b ≡ true → (a || b) ≡ true
 or-r true b p = refl
 or-r false b p = p
+
+-- weaker tests on both sides
+pub or-mono : {a b c d : Bool} → (a ≡ true → c ≡ true) → (b ≡ true → d ≡ true) → (a || b) ≡ true → (c || d) ≡ true
+or-mono {a} {b} {c} {d} f g e = go (or-e a b e)
+  where
+    go : (a ≡ true) ⊎ (b ≡ true) → (c || d) ≡ true
+    go (inl p) = or-l c d (f p)
+    go (inr q) = or-r c d (g q)
 
 pub or-false-l : (a b : Bool) → (a || b) ≡ false → a ≡ false
 or-false-l true b e = e
@@ -119,11 +127,7 @@ module _ {A : Type 0} where
   pub anyIn-mono : (l : List A) (f g : A → Bool) → ((x : A) → f x ≡ true → g x ≡ true) → anyIn l f ≡ true → anyIn l g ≡ true
   unfolding anyIn
   anyIn-mono [] f g h e = e
-  anyIn-mono (x ∷ xs) f g h e = go (or-e (f x) _ e) (anyIn-mono xs f g h)
-    where
-      go : (f x ≡ true) ⊎ (anyIn xs f ≡ true) → (anyIn xs f ≡ true → anyIn xs g ≡ true) → (g x || anyIn xs g) ≡ true
-      go (inl p) k = or-l (g x) _ (h x p)
-      go (inr q) k = or-r (g x) _ (k q)
+  anyIn-mono (x ∷ xs) f g h e = or-mono (h x) (anyIn-mono xs f g h) e
 
   pub allIn-e : (l : List A) (f : A → Bool) → allIn l f ≡ true → (x : A) → List·Memᴰ x l → f x ≡ true
   unfolding allIn

@@ -1,12 +1,13 @@
 -- An accepted book has nothing wrong in it, and stands for a well-formed book. Assumes nothing.
-use mathlib.Core.Path.{ap₂, _≡_, sym, ap, _∙_}
-use mathlib.Core.Bool.{true, false}
+use mathlib.Core.Path.{_∙_, _≡_, ap, ap₂, sym}
+use mathlib.Core.Bool.{false, true}
 use mathlib.Core.Logic.{_⊎_, inl, inr}
-use mathlib.Core.List.{List, [], List·Memᴰ, List·Memᴰ·head, List·Memᴰ·tail, List·Memᴰ·not-nil}
-use Prim.Native.Nat.{ℕ, zero, suc, _+_, _*_, _/_, _%_, _≤_, _<_}
+use mathlib.Core.List.{List, List·Memᴰ, List·Memᴰ·head, List·Memᴰ·not-nil, List·Memᴰ·tail, []}
+use Prim.Native.Nat.{_%_, _*_, _+_, _/_, _<_, _≤_, suc, zero, ℕ}
 use native.Mathlib.Omega.{arith}
 use lib.Dec.{eqb}
-use borrow.Author.Tests.{leb-false, eqb-true, eqb-false, lt-ltb}
+use lib.ListN.{length}
+use borrow.Author.Tests.{eqb-false, eqb-true, leb-false, lt-ltb}
 use Rattle.model.specs.Books.{WellFormed, WellFormedSheet}
 use Rattle.model.specs.Tests.{NoneIn, tab}
 use Rattle.model.proofs.Firsts.{any-none, lowest-firstIn, lowest-none}
@@ -17,8 +18,8 @@ use Rattle.book.specs.Fields.{byteAt}
 use Rattle.book.specs.Head.{RightHead, columnOf, columnsOf, rowsOf, sheetsOf, valuesOf, widthOf}
 use Rattle.book.specs.Rows.{blockOf, blocksNeeded, blocksOf, boundOf, clean, firstBlock, firstFault, placeBound, rowPlace, wrongBlock, wrongByte, wrongSheet}
 use Rattle.book.specs.Verdicts.{Accepted, checkResult, refused}
-use Rattle.book.proofs.Faults.{clean-none, fault-zero}
-use Rattle.book.proofs.Results.{result-accepted, result-blocks, result-check, result-field, result-length, result-row}
+use Rattle.book.proofs.Faults.{clean-none, fault-zero, firstBlock-later}
+use Rattle.book.proofs.Results.{result-accepted, result-blocks, result-check, result-field, result-length, result-row, right-length}
 use Rattle.book.proofs.Right.{column-inside, column-rises, columns-range, few-sheets, rows-most, sheets-most, values-range, width-range}
 
 -- ---- nothing is wrong
@@ -75,16 +76,26 @@ module _ (b : List ℕ) (h : RightBook b) where
     no-wrong-byte q i p l =
         any-none (any-none (no-wrong-sheet .at s (omega arith) used) .at q (omega arith) p) .at i (omega arith) l
 
-    -- byte j of row r, which is used, and j below the width
-    pub value-below : (r j : ℕ) → r < rowsOf b s → j < widthOf b s → byteAt b (rowPlace b s r + j) < valuesOf b (columnOf b s j)
-    unfolding wrongByte boundOf placeBound rowPlace blocksOf
-    value-below r j p l =
-        let k : j < 4 = omega (arith, width-range b (h .head) s used .1) in
+    -- byte j of row r, which is used, is below its bound
+    pub byte-below : (r j : ℕ) → r < rowsOf b s → j < 4 → byteAt b (rowPlace b s r + j) < placeBound b s j
+    unfolding wrongByte boundOf rowPlace blocksOf
+    byte-below r j p l =
         let er : 127 * (r / 127) + (4 * (r % 127) + j) / 4 ≡ r = omega arith in
         let ej : (4 * (r % 127) + j) % 4 ≡ j = omega arith in
         let ep : 512 * (firstBlock b s + r / 127) + (4 * (r % 127) + j) ≡ 512 * (firstBlock b s + r / 127) + 4 * (r % 127) + j = omega arith in
         let e = no-wrong-byte (r / 127) (4 * (r % 127) + j) (omega arith) (omega arith) in
-        leb-false _ _ (rw (er, ej, lt-ltb r (rowsOf b s) p, lt-ltb j (widthOf b s) l, ep) at e)
+        leb-false _ _ (rw (er, ej, lt-ltb r (rowsOf b s) p, ep) at e)
+
+    -- at a place of the width that is its column's V
+    pub value-below : (r j : ℕ) → r < rowsOf b s → j < widthOf b s → byteAt b (rowPlace b s r + j) < valuesOf b (columnOf b s j)
+    unfolding placeBound
+    value-below r j p l =
+        rw (lt-ltb j (widthOf b s) l) at (byte-below r j p (omega (arith, width-range b (h .head) s used .1)))
+
+    -- a row that is used is there
+    pub row-inside : (r : ℕ) → r < rowsOf b s → rowPlace b s r + 3 < length b
+    unfolding rowPlace blocksOf blocksNeeded
+    row-inside r p = omega (arith, right-length b (h .length-right), h .blocks, firstBlock-later b s (sheetsOf b) used)
 
 -- ---- the decoded book
 -- an element of a table is one of its function's values
@@ -95,7 +106,7 @@ tab-mem (suc n) f x (List·Memᴰ·head e) = (0, omega arith, e)
 tab-mem (suc n) f x (List·Memᴰ·tail m) = let r = tab-mem n (λ i. f (suc i)) x m in (suc (r .0), omega (arith, r .1), r .2)
 
 module _ (b : List ℕ) (h : RightBook b) (s : ℕ) (used : s < sheetsOf b) where
-  rises : (i j : ℕ) → i < j → j < widthOf b s → columnOf b s i < columnOf b s j
+  pub rises : (i j : ℕ) → i < j → j < widthOf b s → columnOf b s i < columnOf b s j
   rises i zero l p = absurd (omega arith)
   rises i (suc j) l p = go (below i j) (rises i j)
     where

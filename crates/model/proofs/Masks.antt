@@ -1,18 +1,18 @@
 -- Laws of masks: the places that are set. Assumes nothing.
-use mathlib.Core.Path.{_≡_, refl, sym, ap, ap₂, _∙_}
-use mathlib.Core.Bool.{Bool, true, false, _&&_, _||_, false≢true}
+use mathlib.Core.Path.{_∙_, _≡_, ap, ap₂, refl, sym}
+use mathlib.Core.Bool.{Bool, _&&_, _||_, false, false≢true, true}
 use mathlib.Core.Logic.{_⊎_, inl, inr}
-use Prim.Native.Nat.{ℕ, zero, suc, _+_, _-_, _*_, _/_, _%_, _^_, _≤_, _<_, min, max}
-use native.Mathlib.Nat.{not-suc-le-zero, le-of-suc-le-suc, zero-lt-suc, div-one, zero-div, pow-succ', div-div-eq-div-mul, div-eq-of-lt, lt-of-lt-of-le}
+use Prim.Native.Nat.{_%_, _*_, _+_, _-_, _/_, _<_, _^_, _≤_, max, min, suc, zero, ℕ}
+use native.Mathlib.Nat.{div-div-eq-div-mul, div-eq-of-lt, div-one, le-of-suc-le-suc, lt-of-lt-of-le, not-suc-le-zero, pow-succ', zero-div, zero-lt-suc}
 use native.Mathlib.Omega.{arith}
+use lib.Bits.{and-self, and-step, bitAnd, bitOr, or-step}
 use lib.Count.{trailingZeros, under}
 use lib.Dec.{eqb}
-use lib.Bits.{bitOr, or-step, and-self, bitAnd, and-step}
 use lib.Pow.{pow-mono}
-use borrow.Author.Tests.{eqb-true, eqb-false, eq-eqb, ne-eqb}
+use borrow.Author.Tests.{eq-eqb, eqb-false, eqb-true, ne-eqb}
+use Rattle.model.specs.Masks.{Cleared, bit, maskOf}
 use Rattle.model.specs.Tests.{oneIf}
-use Rattle.model.specs.Masks.{bit, maskOf}
-use Rattle.model.proofs.Tests.{either, below}
+use Rattle.model.proofs.Tests.{below, either}
 
 pub bit-zero : (m : ℕ) → bit 0 m ≡ eqb (m % 2) 1
 unfolding bit
@@ -170,12 +170,6 @@ bit-pow-only v u e = go (either (eqb u v))
     go (inr q) = absurd (false≢true (sym (bit-pow-other v u (eqb-false u v q)) ∙ e))
 
 -- ---- the lowest place: `x & (x - 1)` is x without it
--- y is x without the place t, which x has
-pub record Cleared (x y t : ℕ) : Type 0 where
-  pub here : bit t x ≡ true
-  pub gone : bit t y ≡ false
-  pub rest : (i : ℕ) → (i ≡ t → ⊥) → bit i y ≡ bit i x
-
 under-lt : (d t k : ℕ) → (d ≡ 0 → t < k) → under d t < suc k
 under-lt zero t k f = let h = f refl in omega arith
 under-lt (suc d) t k f = omega arith

@@ -1,24 +1,24 @@
 -- Laws of valid rows: a value is supported in a sheet exactly when a valid row has it. What an engine strikes by its rows is not
 -- supported, and where every value has a valid row the store is consistent. Assumes nothing.
-use mathlib.Core.Path.{_≡_, refl, sym, ap, _∙_}
-use mathlib.Core.Bool.{true, false, false≢true}
-use mathlib.Core.Logic.{_⊎_, inl, inr, _↔_}
-use mathlib.Core.List.{List, [], _∷_, List·Memᴰ, List·Memᴰ·head, List·Memᴰ·tail}
-use Prim.Native.Nat.{ℕ, zero, suc, _+_, _*_, _^_, _<_}
-use native.Mathlib.Nat.{not-suc-le-zero, le-of-suc-le-suc, zero-lt-suc}
+use mathlib.Core.Path.{_∙_, _≡_, ap, refl, sym}
+use mathlib.Core.Bool.{false, false≢true, true}
+use mathlib.Core.Logic.{_↔_, _⊎_, inl, inr}
+use mathlib.Core.List.{List, List·Memᴰ, List·Memᴰ·head, List·Memᴰ·tail, [], _∷_}
+use Prim.Native.Nat.{_*_, _+_, _<_, _^_, suc, zero, ℕ}
+use native.Mathlib.Nat.{le-of-suc-le-suc, not-suc-le-zero, zero-lt-suc}
 use native.Mathlib.Omega.{arith}
 use lib.Dec.{ltb}
-use lib.ListN.{length, getD}
-use borrow.Author.Tests.{ltb-true, lt-ltb}
-use Rattle.model.specs.Masks.{bit}
-use Rattle.model.specs.Stores.{has, IsStore}
+use lib.ListN.{getD, length}
+use borrow.Author.Tests.{lt-ltb, ltb-true}
+use Rattle.model.specs.Books.{Book, Sheet, Support, WellFormed, columnCount, supported, supportedIn}
+use Rattle.model.specs.Choices.{Takes, pick}
 use Rattle.model.specs.Closure.{Consistent}
-use Rattle.model.specs.Choices.{pick, Takes}
-use Rattle.model.specs.Books.{Sheet, Book, columnCount, WellFormed, Support, supportedIn, supported}
+use Rattle.model.specs.Masks.{bit}
 use Rattle.model.specs.States.{valid, validRow, validWord}
-use Rattle.model.proofs.Tests.{and-l, and-r, and-i, either, allIn-e}
-use Rattle.model.proofs.Masks.{bit-maskOf, maskOf-lt, mask-ext}
-use Rattle.model.proofs.Books.{support-e, consistent-from, allows-e, allows-i}
+use Rattle.model.specs.Stores.{IsStore, has}
+use Rattle.model.proofs.Books.{allows-e, allows-i, consistent-from, support-e}
+use Rattle.model.proofs.Masks.{bit-maskOf, mask-ext, maskOf-lt}
+use Rattle.model.proofs.Tests.{allIn-e, and-i, and-l, and-r, either}
 
 pub valid-e : (D cs r : List ℕ) → valid D cs r ≡ true → Takes (pick D cs) r
 unfolding valid has
@@ -48,10 +48,10 @@ at-place : (x : List ℕ) (l : List (List ℕ)) → List·Memᴰ x l → (i : �
 at-place x (y ∷ l) (List·Memᴰ·head e) = (0, zero-lt-suc (length l), sym e)
 at-place x (y ∷ l) (List·Memᴰ·tail m) = let r = at-place x l m in (suc (r .0), omega arith, r .2)
 
-in-list : (l : List (List ℕ)) (i : ℕ) → i < length l → List·Memᴰ (getD l i []) l
-in-list [] i h = absurd (not-suc-le-zero h)
-in-list (y ∷ l) zero h = List·Memᴰ·head refl
-in-list (y ∷ l) (suc i) h = List·Memᴰ·tail (in-list l i (le-of-suc-le-suc h))
+pub in-list : {A : Type 0} (d : A) (l : List A) (i : ℕ) → i < length l → List·Memᴰ (getD l i d) l
+in-list d [] i h = absurd (not-suc-le-zero h)
+in-list d (y ∷ l) zero h = List·Memᴰ·head refl
+in-list d (y ∷ l) (suc i) h = List·Memᴰ·tail (in-list d l i (le-of-suc-le-suc h))
 
 -- a valid row of the sheet with the value v at place i
 pub record ValidSupport (D : List ℕ) (s : Sheet) (i v : ℕ) : Type 0 where
@@ -77,7 +77,7 @@ support-iff D s i v = (to, from)
         let l = ltb-true (k .row) (length (s .rows)) (and-l (ltb (k .row) (length (s .rows))) _ (k .is-valid)) in
         record {
           row = getD (s .rows) (k .row) [];
-          sheet-allows = allows-i s _ (in-list (s .rows) (k .row) l);
+          sheet-allows = allows-i s _ (in-list [] (s .rows) (k .row) l);
           valid = valid-e D (s .columns) _ (and-r (ltb (k .row) (length (s .rows))) _ (k .is-valid));
           value = k .value;
         }
@@ -109,12 +109,12 @@ module _ (b : Book) (p : WellFormed b) (D : List ℕ) where
 
 -- ---- the words
 -- bit r mod 64 of word r div 64 says whether row r is valid
-pub word-row : (D : List ℕ) (s : Sheet) (w k : ℕ) → k < 64 → bit k (validWord D s w) ≡ validRow D s (w * 64 + k)
+pub word-row : (D : List ℕ) (s : Sheet) (w k : ℕ) → k < 64 → bit k (validWord D s w) ≡ validRow D s (64 * w + k)
 unfolding validWord
-word-row D s w k h = bit-maskOf 64 (λ k. validRow D s (w * 64 + k)) k h
+word-row D s w k h = bit-maskOf 64 (λ k. validRow D s (64 * w + k)) k h
 
 -- a word with the same rows is the sheet's word
-pub word-same : (D : List ℕ) (s : Sheet) (w x : ℕ) → x < 2 ^ 64 → ((k : ℕ) → k < 64 → bit k x ≡ validRow D s (w * 64 + k)) → x ≡ validWord D s w
+pub word-same : (D : List ℕ) (s : Sheet) (w x : ℕ) → x < 2 ^ 64 → ((k : ℕ) → k < 64 → bit k x ≡ validRow D s (64 * w + k)) → x ≡ validWord D s w
 unfolding validWord
 word-same D s w x l h =
-    mask-ext 64 x (validWord D s w) l (maskOf-lt 64 (λ k. validRow D s (w * 64 + k))) (λ k m. h k m ∙ sym (word-row D s w k m))
+    mask-ext 64 x (validWord D s w) l (maskOf-lt 64 (λ k. validRow D s (64 * w + k))) (λ k m. h k m ∙ sym (word-row D s w k m))

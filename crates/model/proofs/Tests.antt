@@ -1,15 +1,15 @@
 -- Laws of the tests over numbers and lists, of counts, and of `&&` and `||`. Assumes nothing.
-use mathlib.Core.Path.{_≡_, refl, sym, ap, _∙_}
-use mathlib.Core.Bool.{Bool, true, false, _&&_, _||_, false≢true}
+use mathlib.Core.Path.{_∙_, _≡_, ap, ap₂, refl, sym}
+use mathlib.Core.Bool.{Bool, _&&_, _||_, false, false≢true, true}
 use mathlib.Core.Logic.{_⊎_, inl, inr}
-use mathlib.Core.List.{List, [], _∷_, List·Memᴰ, List·Memᴰ·head, List·Memᴰ·tail}
-use Prim.Native.Nat.{ℕ, zero, suc, _+_, _≤_, _<_}
-use native.Mathlib.Nat.{not-suc-le-zero, le-of-suc-le-suc, le-refl, zero-lt-suc}
+use mathlib.Core.List.{List, List·Memᴰ, List·Memᴰ·head, List·Memᴰ·tail, [], _∷_}
+use Prim.Native.Nat.{_+_, _<_, _≤_, suc, zero, ℕ}
+use native.Mathlib.Nat.{le-of-suc-le-suc, le-refl, not-suc-le-zero, zero-lt-suc}
 use native.Mathlib.Omega.{arith}
 use lib.Dec.{eqb, ltb}
-use lib.ListN.{length, getD, List·getD-eq-default}
+use lib.ListN.{List·getD-eq-default, getD, length}
 use lib.Seq.{ext-getD}
-use borrow.Author.Tests.{ltb-true, ltb-false, eqb-true, eq-eqb}
+use borrow.Author.Tests.{eq-eqb, eqb-true, ltb-false, ltb-true}
 use Rattle.model.specs.Tests.{allBelow, allIn, anyBelow, anyIn, count, eqList, lowest, oneIf, sum, tab}
 
 -- ---- `&&`, `||`
@@ -93,6 +93,17 @@ pub allBelow-i : (n : ℕ) (f : ℕ → Bool) → ((i : ℕ) → i < n → f i �
 unfolding allBelow
 allBelow-i zero f h = refl
 allBelow-i (suc n) f h = and-i (h 0 (zero-lt-suc n)) (allBelow-i n (λ j. f (suc j)) (λ i l. h (suc i) (omega arith)))
+
+pub allBelow-same : (n : ℕ) (f g : ℕ → Bool) → ((i : ℕ) → i < n → f i ≡ g i) → allBelow n f ≡ allBelow n g
+unfolding allBelow
+allBelow-same zero f g h = refl
+allBelow-same (suc n) f g h = ap₂ _&&_ (h 0 (zero-lt-suc n)) (allBelow-same n (λ i. f (suc i)) (λ i. g (suc i)) (λ i l. h (suc i) (omega arith)))
+
+pub allBelow-last : (n : ℕ) (f : ℕ → Bool) → allBelow (suc n) f ≡ (allBelow n f && f n)
+unfolding allBelow
+allBelow-last zero f = and-true (f 0)
+allBelow-last (suc n) f =
+    ap (λ (t : Bool). f 0 && t) (allBelow-last n (λ i. f (suc i))) ∙ and-assoc (f 0) (allBelow n (λ i. f (suc i))) (f (suc n))
 
 pub anyBelow-e : (n : ℕ) (f : ℕ → Bool) → anyBelow n f ≡ true → (i : ℕ) × (i < n) × (f i ≡ true)
 unfolding anyBelow

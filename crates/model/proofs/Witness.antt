@@ -96,6 +96,7 @@ first-indexed index word e p z =
       few = omega arith;
       each = λ i l. omega (arith, own i l);
       once = λ i j l m q. sym (own i l) ∙ q ∙ own j m;
+      every = λ w l. (w, l, own w l);
       limit = λ i l. (
         λ h. ⊎-elim (λ w. omega arith) (λ w. omega arith) (word-at i l),
         λ h. ⊎-elim (λ w. omega arith) (λ w. omega arith) (word-at i l),

@@ -1,5 +1,6 @@
 -- A mask: a number read as the set of the places of its binary digits that are 1.
-use mathlib.Core.Bool.{Bool}
+use mathlib.Core.Path.{_≡_}
+use mathlib.Core.Bool.{Bool, true, false}
 use Prim.Native.Nat.{ℕ, zero, suc, _+_, _*_, _/_, _%_, _^_}
 use lib.Dec.{eqb}
 use Rattle.model.specs.Tests.{oneIf, count}
@@ -16,3 +17,9 @@ maskOf (suc k) f = oneIf (f 0) + 2 * maskOf k (λ v. f (suc v))
 -- how many of the 32 places are set
 abbrev pub size : ℕ → ℕ
 size m = count 32 (λ v. bit v m)
+
+-- y is x without the place t, which x has
+pub record Cleared (x y t : ℕ) : Type 0 where
+  pub here : bit t x ≡ true
+  pub gone : bit t y ≡ false
+  pub rest : (i : ℕ) → (i ≡ t → ⊥) → bit i y ≡ bit i x

@@ -24,9 +24,10 @@ validRow D s r = ltb r (length (s .rows)) && valid D (s .columns) (getD (s .rows
 
 -- word w of the sheet's valid rows: "Row r is bit r mod 64 of word r div 64"
 unfoldable pub validWord : List ℕ → Sheet → ℕ → ℕ
-validWord D s w = maskOf 64 (λ k. validRow D s (w * 64 + k))
+validWord D s w = maskOf 64 (λ k. validRow D s (64 * w + k))
 
 -- "An index lists word numbers as a permutation, and position i is at or below the limit exactly when the word it names isn't zero."
+-- Each of the eight word numbers stands at one position.
 -- n is one more than the limit: "With no live row the limit is −1", and n is 0
 --
 --     position   0   1   2 | 3   4   5   6   7        n = 3
@@ -36,6 +37,7 @@ pub record Indexed (index : ℕ → ℕ) (n : ℕ) (word : ℕ → ℕ) : Type 0
   pub few : n ≤ 8
   pub each : (i : ℕ) → i < 8 → index i < 8
   pub once : (i j : ℕ) → i < 8 → j < 8 → index i ≡ index j → i ≡ j
+  pub every : (w : ℕ) → w < 8 → (i : ℕ) × (i < 8) × (index i ≡ w)
   pub limit : (i : ℕ) → i < 8 → (i < n) ↔ (0 < word (index i))
 
 -- ---- "eight 64-bit words for each sheet, held with the domains"
@@ -44,7 +46,7 @@ pub record Indexed (index : ℕ → ℕ) (n : ℕ) (word : ℕ → ℕ) : Type 0
 --
 -- entry i of sheet s in an array with eight for each sheet
 abbrev pub ofSheet : List ℕ → ℕ → ℕ → ℕ
-ofSheet xs s i = getD xs (s * 8 + i) 0
+ofSheet xs s i = getD xs (8 * s + i) 0
 
 -- sheet s of the book
 abbrev pub sheetAt : Book → ℕ → Sheet
@@ -57,11 +59,15 @@ pub record Arrays : Type 0 where
   pub index : List ℕ
   pub limits : List ℕ
 
--- "its domains … and live rows are those of the standing list and its index keeps the invariant above"
-pub record StateHolds (b : Book) (L : List Entry) (a : Arrays) : Type 0 where
-  pub domain : (c : ℕ) → getD (a .doms) c 0 ≡ getD (domains b L) c 0
-  pub rows : (s w : ℕ) → s < length (b .sheets) → w < 8 → ofSheet (a .words) s w ≡ validWord (domains b L) (sheetAt b s) w
+-- the state of a store D: its domains, its valid rows, and an index of their words
+pub record StateOf (b : Book) (D : List ℕ) (a : Arrays) : Type 0 where
+  pub domain : (c : ℕ) → getD (a .doms) c 0 ≡ getD D c 0
+  pub rows : (s w : ℕ) → s < length (b .sheets) → w < 8 → ofSheet (a .words) s w ≡ validWord D (sheetAt b s) w
   pub indexed : (s : ℕ) → s < length (b .sheets) → Indexed (ofSheet (a .index) s) (getD (a .limits) s 0) (ofSheet (a .words) s)
+
+-- "its domains … and live rows are those of the standing list and its index keeps the invariant above"
+abbrev pub StateHolds : Book → List Entry → Arrays → Type 0
+StateHolds b L a = StateOf b (domains b L) a
 
 -- a session: its state and depth are those of the trail, and for each checkpoint it has saved the state of the trail before it
 pub record SessionHolds (b : Book) (L : List Entry) (now : Arrays) (marks : ℕ) (saved : ℕ → Arrays) : Type 0 where

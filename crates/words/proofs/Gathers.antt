@@ -1,0 +1,147 @@
+-- Laws of pass 2, first half: the values that the rows of a sheet carry. Assumes nothing.
+-- ---- the test that stops it
+use mathlib.Core.Path.{_∙_, _≡_, ap, sym}
+use mathlib.Core.Bool.{Bool, _||_, false, false≢true, not, true}
+use mathlib.Core.Logic.{_⊎_, inl, inr}
+use mathlib.Core.List.{List}
+use Prim.Native.Nat.{_%_, _*_, _+_, _-_, _/_, _<_, _^_, _≤_, suc, zero, ℕ}
+use native.Mathlib.Nat.{pow-succ'}
+use native.Mathlib.Omega.{arith}
+use lib.Bits.{bitAnd, bitOr}
+use lib.Dec.{eqb}
+use lib.ListN.{getD}
+use borrow.Author.Tests.{eq-eqb, eqb-true, ne-eqb}
+use Rattle.model.specs.Masks.{bit}
+use Rattle.model.specs.States.{ofSheet}
+use Rattle.model.proofs.Masks.{bit-and, bit-below, bit-of-zero, bit-or, bit-suc, bit-zero}
+use Rattle.model.proofs.Tests.{and-i, below, either, or-false-l, or-false-r}
+use Rattle.words.specs.Cells.{Covered, Gathered, cellAt, fourOf}
+use Rattle.words.specs.Sheets.{AtSheet, Carries, IndexOf, Sized, Supported, isSet, valueAt}
+use Rattle.words.proofs.Cuts.{row-word}
+use Rattle.words.proofs.Indexes.{past-limit}
+use Rattle.words.proofs.Walks.{four-all}
+
+complement : (k y v : ℕ) → y < 2 ^ k → v < k → bit v (2 ^ k - 1 - y) ≡ not (bit v y)
+complement zero y v l h = absurd (omega arith)
+complement (suc k) y zero l h =
+    bit-zero (2 ^ suc k - 1 - y) ∙ digit (y % 2) ((2 ^ suc k - 1 - y) % 2) (omega (arith, pow-succ' 2 k)) (omega arith) ∙ ap not (sym (bit-zero y))
+  where
+    digit : (d e : ℕ) → d + e ≡ 1 → d < 2 → eqb e 1 ≡ not (eqb d 1)
+    digit zero e p q = eq-eqb e 1 (omega arith)
+    digit (suc zero) e p q = ne-eqb e 1 (λ z. omega arith)
+    digit (suc (suc d)) e p q = absurd (omega arith)
+complement (suc k) y (suc v) l h =
+    let e : (2 ^ suc k - 1 - y) / 2 ≡ 2 ^ k - 1 - y / 2 = omega (arith, pow-succ' 2 k) in
+    bit-suc v (2 ^ suc k - 1 - y)
+    ∙ ap (bit v) e
+    ∙ complement k (y / 2) v (omega (arith, pow-succ' 2 k)) (omega arith)
+    ∙ ap not (sym (bit-suc v y))
+
+-- of x nothing is outside y
+none-outside : (x y : ℕ) → x < 2 ^ 32 → y < 2 ^ 32 → ((v : ℕ) → bit v (bitAnd x (4294967295 - y)) ≡ false) → (v : ℕ) → bit v x ≡ true → bit v y ≡ true
+none-outside x y lx ly h v e = go (either (bit v y))
+  where
+    go : (bit v y ≡ true) ⊎ (bit v y ≡ false) → bit v y ≡ true
+    go (inl p) = p
+    go (inr p) =
+        absurd
+        (false≢true
+        (sym (h v) ∙ bit-and v x (4294967295 - y) ∙ and-i e (complement 32 y v ly (bit-below 32 x v lx e) ∙ ap not p)))
+
+pub covered-four : (x0 x1 x2 x3 y0 y1 y2 y3 : ℕ) → ((x0 < 2 ^ 32) × (x1 < 2 ^ 32) × (x2 < 2 ^ 32) × (x3 < 2 ^ 32))
+    → ((y0 < 2 ^ 32) × (y1 < 2 ^ 32) × (y2 < 2 ^ 32) × (y3 < 2 ^ 32))
+    → eqb (bitOr (bitOr (bitOr (bitAnd x0 (4294967295 - y0)) (bitAnd x1 (4294967295 - y1))) (bitAnd x2 (4294967295 - y2))) (bitAnd x3 (4294967295 - y3))) 0 ≡ true
+    → Covered (fourOf x0 x1 x2 x3) (fourOf y0 y1 y2 y3)
+covered-four x0 x1 x2 x3 y0 y1 y2 y3 lx ly e =
+    record {
+      at = λ j v l.
+          four-all (λ j. bit v (getD (fourOf x0 x1 x2 x3) j 0) ≡ true → bit v (getD (fourOf y0 y1 y2 y3) j 0) ≡ true)
+          (none-outside x0 y0 (lx .0) (ly .0) (λ v. or-false-l (b0 v) _ (or-false-l (b0 v || b1 v) _ (all v))) v)
+          (none-outside x1 y1 (lx .1) (ly .1) (λ v. or-false-r (b0 v) _ (or-false-l (b0 v || b1 v) _ (all v))) v)
+          (none-outside x2 y2 (lx .2) (ly .2) (λ v. or-false-r (b0 v || b1 v) _ (all v)) v)
+          (none-outside x3 y3 (lx .3) (ly .3) (λ v. or-false-r ((b0 v || b1 v) || b2 v) _ (whole-word v)) v)
+          j l;
+    }
+  where
+    b0 : ℕ → Bool
+    b0 v = bit v (bitAnd x0 (4294967295 - y0))
+
+    b1 : ℕ → Bool
+    b1 v = bit v (bitAnd x1 (4294967295 - y1))
+
+    b2 : ℕ → Bool
+    b2 v = bit v (bitAnd x2 (4294967295 - y2))
+
+    b3 : ℕ → Bool
+    b3 v = bit v (bitAnd x3 (4294967295 - y3))
+
+    whole-word : (v : ℕ) → (((b0 v || b1 v) || b2 v) || b3 v) ≡ false
+    whole-word v =
+        sym
+        (bit-or v (bitOr (bitOr (bitAnd x0 (4294967295 - y0)) (bitAnd x1 (4294967295 - y1))) (bitAnd x2 (4294967295 - y2))) (bitAnd x3 (4294967295 - y3))
+        ∙ ap (λ (t : Bool). t || b3 v)
+        (bit-or v (bitOr (bitAnd x0 (4294967295 - y0)) (bitAnd x1 (4294967295 - y1))) (bitAnd x2 (4294967295 - y2))
+        ∙ ap (λ (t : Bool). t || b2 v) (bit-or v (bitAnd x0 (4294967295 - y0)) (bitAnd x1 (4294967295 - y1)))))
+        ∙ ap (bit v) (eqb-true _ 0 e)
+        ∙ bit-of-zero v
+
+    all : (v : ℕ) → ((b0 v || b1 v) || b2 v) ≡ false
+    all v = or-false-l ((b0 v || b1 v) || b2 v) (b3 v) (whole-word v)
+
+-- ---- the walk over the words
+-- every value seen is carried, and the values of the rows at positions below p have been seen
+pub record Supporting (b : List ℕ) (s p : ℕ) (W X seen : List ℕ) : Type 0 where
+  pub sound : (j v : ℕ) → j < 4 → bit v (getD seen j 0) ≡ true → Carries b s W j v
+  pub done : (i j k : ℕ) → i < p → j < 4 → bit k (ofSheet W s (ofSheet X s i)) ≡ true → bit (valueAt b s (64 * ofSheet X s i + k) j) (getD seen j 0) ≡ true
+
+pub supporting-start : (b : List ℕ) (s : ℕ) (W X : List ℕ) → Supporting b s 0 W X (fourOf 0 0 0 0)
+supporting-start b s W X =
+    record {
+      sound = λ j v l e. absurd (false≢true (sym (four-all (λ j. bit v (getD (fourOf 0 0 0 0) j 0) ≡ false) (bit-of-zero v) (bit-of-zero v) (bit-of-zero v) (bit-of-zero v) j l) ∙ e));
+      done = λ i j k l m e. absurd (omega arith);
+    }
+
+module _ {b : List ℕ} {first s : ℕ} (a : AtSheet b first s) {W X N : List ℕ} (h : IndexOf s W X N) (z : Sized W X N) where
+  pub supporting-more : {p w word : ℕ} {f g : List ℕ} → p < getD N s 0 → w ≡ ofSheet X s p → word ≡ ofSheet W s w → Supporting b s p W X f
+      → Gathered b first (64 * w) word f g → Supporting b s (p + 1) W X g
+  supporting-more {p} {w} {word} {f} {g} l ew eword q r = record {
+    sound = λ j v m e. from j v m (r .sound j v m e);
+    done = λ i j k m n e. here i j k n e (below i p) m;
+  }
+    where
+      small : w < 8
+      small = rw ew (h .each p (omega (arith, h .few)))
+
+      from : (j v : ℕ) → j < 4 → (bit v (getD f j 0) ≡ true) ⊎ ((k : ℕ) × (bit k word ≡ true) × (cellAt b first (64 * w + k) j ≡ v)) → Carries b s W j v
+      from j v m (inl e) = q .sound j v m e
+      from j v m (inr (k, e, u)) =
+          let y : bit k (ofSheet W s w) ≡ true = rw eword at e in
+          let t = bit-below 64 (ofSheet W s w) k (z .bits (8 * s + w)) y in
+          record { row = 64 * w + k; small = omega (arith, small); set-row = row-word W s w k t ∙ y; value = ap (λ (i : ℕ). cellAt b i (64 * w + k) j) (sym (a .begins)) ∙ u }
+
+      here : (i j k : ℕ) → j < 4 → bit k (ofSheet W s (ofSheet X s i)) ≡ true → (i < p) ⊎ (p ≤ i) → i < p + 1
+          → bit (valueAt b s (64 * ofSheet X s i + k) j) (getD g j 0) ≡ true
+      here i j k m e (inl o) n = r .old j _ m (q .done i j k o m e)
+      here i j k m e (inr o) n =
+          let y : i ≡ p = omega arith in
+          rw (y, ← ew, ← a .begins) (r .new j k m (rw (eword, ew, ← y) e))
+
+  pub supporting-covered : {p : ℕ} {x y : List ℕ} → Supporting b s p W X y → Covered x y → Supported b s W x y
+  supporting-covered q c = record { sound = q .sound; complete = λ j v l e r. c .at j v l e }
+
+  pub supporting-all : {p : ℕ} {x y : List ℕ} → getD N s 0 ≤ p → Supporting b s p W X y → Supported b s W x y
+  unfolding isSet
+  supporting-all {p} {x} {y} l q = record { sound = q .sound; complete = λ j v m e r. go j v m r }
+    where
+      go : (j v : ℕ) → j < 4 → Carries b s W j v → bit v (getD y j 0) ≡ true
+      go j v m r =
+          let f = h .every (r .row / 64) (omega (arith, r .small)) in
+          let e : 64 * (r .row / 64) + r .row % 64 ≡ r .row = omega arith in
+          let u : bit (r .row % 64) (ofSheet W s (ofSheet X s (f .0))) ≡ true = rw (f .2) (r .set-row) in
+          let there = at (f .0) (f .1) (below (f .0) p) u in
+          rw (← r .value, ← e, ← f .2) (q .done (f .0) j (r .row % 64) there m u)
+        where
+          at : (i : ℕ) → i < 8 → (i < p) ⊎ (p ≤ i) → bit (r .row % 64) (ofSheet W s (ofSheet X s i)) ≡ true → i < p
+          at i n (inl o) u = o
+          at i n (inr o) u =
+              absurd (false≢true (sym (bit-of-zero (r .row % 64)) ∙ ap (bit (r .row % 64)) (sym (past-limit h i n (omega arith))) ∙ u))

@@ -1,0 +1,142 @@
+-- The sheets of an accepted book: where their rows stand, and which of them are valid. Assumes nothing.
+use mathlib.Core.Path.{_∙_, _≡_, ap, refl, sym}
+use mathlib.Core.Bool.{Bool, _&&_, true}
+use mathlib.Core.Logic.{_⊎_, inl, inr}
+use mathlib.Core.List.{List, List·Memᴰ, []}
+use Prim.Native.Nat.{_+_, _<_, _≤_, suc, zero, ℕ}
+use native.Mathlib.Omega.{arith}
+use lib.Dec.{ltb}
+use lib.ListN.{getD, length}
+use borrow.Author.Tests.{le-ltb, lt-ltb, ltb-true}
+use Rattle.model.specs.Books.{Sheet, WellFormed}
+use Rattle.model.specs.States.{sheetAt, valid, validRow}
+use Rattle.model.specs.Stores.{has}
+use Rattle.model.specs.Tests.{allBelow, tab}
+use Rattle.model.proofs.Rows.{in-list}
+use Rattle.model.proofs.Tests.{allBelow-e, allBelow-i, allBelow-same, and-i, and-l, and-r, below, getD-tab, length-tab}
+use Rattle.book.specs.Decoding.{bookOf, rowOf, sheetOf}
+use Rattle.book.specs.Fields.{byteAt}
+use Rattle.book.specs.Head.{columnOf, rowsOf, sheetsOf, valuesOf, widthOf}
+use Rattle.book.specs.Rows.{placeBound, rowPlace}
+use Rattle.book.proofs.Decoded.{RightBook, accepted-right, byte-below, right-formed, rises, row-inside, value-below}
+use Rattle.book.proofs.Results.{right-length}
+use Rattle.book.proofs.Right.{column-inside, columns-range, rows-most, sheets-most, values-range, width-range}
+use Rattle.words.specs.Cells.{cellAt, cellPlace}
+use Rattle.words.specs.Sheets.{AtSheet, valueAt}
+
+module _ {b : List ℕ} {first s : ℕ} (a : AtSheet b first s) where
+  right : RightBook b
+  right = accepted-right b (a .accepted)
+
+  pub eight : s < 8
+  eight = omega (arith, a .one, sheets-most b (right .head))
+
+  pub head-there : 512 ≤ length b
+  head-there = omega (arith, right-length b (right .length-right))
+
+  pub width-most : (1 ≤ widthOf b s) × (widthOf b s ≤ 4)
+  width-most = width-range b (right .head) s (a .one)
+
+  pub rows-few : rowsOf b s ≤ 508
+  rows-few = rows-most b (right .head) s (a .one)
+
+  pub column-below : (j : ℕ) → j < widthOf b s → columnOf b s j < 16
+  column-below j l = omega (arith, column-inside b (right .head) s (a .one) j l, columns-range b (right .head) .1)
+
+  -- two places have two columns
+  pub column-once : (i j : ℕ) → i < widthOf b s → j < widthOf b s → columnOf b s i ≡ columnOf b s j → i ≡ j
+  column-once i j li lj e = go (below i j) (below j i)
+    where
+      go : (i < j) ⊎ (j ≤ i) → (j < i) ⊎ (i ≤ j) → i ≡ j
+      go (inl p) q = absurd (omega (arith, rises b right s (a .one) i j p lj))
+      go (inr p) (inl q) = absurd (omega (arith, rises b right s (a .one) j i q li))
+      go (inr p) (inr q) = omega arith
+
+  -- ---- the rows
+  same-place : (r j : ℕ) → rowPlace b s r + j ≡ cellPlace first r j
+  unfolding rowPlace
+  same-place r j = omega (arith, a .begins)
+
+  pub cell-there : (r : ℕ) → r < rowsOf b s → cellPlace first r 3 < length b
+  cell-there r l = omega (arith, same-place r 3, row-inside b right s (a .one) r l)
+
+  pub cell-bound : (r j : ℕ) → r < rowsOf b s → j < 4 → cellAt b first r j < placeBound b s j
+  cell-bound r j l p = rw (← same-place r j) (byte-below b right s (a .one) r j l p)
+
+  pub cell-value : (r j : ℕ) → r < rowsOf b s → j < widthOf b s → cellAt b first r j < valuesOf b (columnOf b s j)
+  cell-value r j l p = rw (← same-place r j) (value-below b right s (a .one) r j l p)
+
+  pub cell-small : (r j : ℕ) → r < rowsOf b s → j < 4 → cellAt b first r j < 32
+  unfolding placeBound
+  cell-small r j l p = go (below j (widthOf b s))
+    where
+      go : (j < widthOf b s) ⊎ (widthOf b s ≤ j) → cellAt b first r j < 32
+      go (inl q) = omega (arith, cell-value r j l q, values-range b (right .head) (columnOf b s j) (column-inside b (right .head) s (a .one) j q) .1)
+      go (inr q) =
+          let e : cellAt b first r j < 1 = rw (le-ltb j (widthOf b s) q) at (cell-bound r j l p) in omega arith
+
+  -- ---- valid rows
+  valid-tab : (n : ℕ) (D : List ℕ) (f g : ℕ → ℕ) → valid D (tab n f) (tab n g) ≡ allBelow n (λ j. has D (f j) (g j))
+  unfolding tab valid allBelow
+  valid-tab zero D f g = refl
+  valid-tab (suc n) D f g = ap (λ (t : Bool). has D (f 0) (g 0) && t) (valid-tab n D (λ i. f (suc i)) (λ i. g (suc i)))
+
+  sheet-at : sheetAt (bookOf b) s ≡ sheetOf b s
+  unfolding bookOf
+  sheet-at = getD-tab (record { columns = []; rows = [] }) (sheetsOf b) (sheetOf b) s (a .one)
+
+  pub valid-iff : (D : List ℕ) (r : ℕ) → validRow D (sheetAt (bookOf b) s) r
+      ≡ (ltb r (rowsOf b s) && allBelow (widthOf b s) (λ j. has D (columnOf b s j) (valueAt b s r j)))
+  unfolding validRow sheetOf rowOf
+  valid-iff D r = ap (λ (x : Sheet). validRow D x r) sheet-at ∙ go (below r (rowsOf b s))
+    where
+      size : length (tab (rowsOf b s) (rowOf b s)) ≡ rowsOf b s
+      size = length-tab (rowsOf b s) (rowOf b s)
+
+      go : (r < rowsOf b s) ⊎ (rowsOf b s ≤ r) → validRow D (sheetOf b s) r
+          ≡ (ltb r (rowsOf b s) && allBelow (widthOf b s) (λ j. has D (columnOf b s j) (valueAt b s r j)))
+      go (inl l) =
+          rw (size, lt-ltb r (rowsOf b s) l, getD-tab [] (rowsOf b s) (rowOf b s) r l)
+          (valid-tab (widthOf b s) D (columnOf b s) (λ j. byteAt b (rowPlace b s r + j))
+          ∙ allBelow-same (widthOf b s) _ _
+          (λ j p. ap (λ (i : ℕ). has D (columnOf b s j) (byteAt b i)) (same-place r j ∙ ap (λ (f : ℕ). cellPlace f r j) (a .begins))))
+      go (inr l) = rw (size, le-ltb r (rowsOf b s) l)
+
+  pub valid-e : (D : List ℕ) (r : ℕ) → validRow D (sheetAt (bookOf b) s) r ≡ true
+      → (r < rowsOf b s) × ((j : ℕ) → j < widthOf b s → has D (columnOf b s j) (valueAt b s r j) ≡ true)
+  valid-e D r e =
+      let k = sym (valid-iff D r) ∙ e in (
+        ltb-true r (rowsOf b s) (and-l (ltb r (rowsOf b s)) _ k),
+        λ j l. allBelow-e (widthOf b s) (λ j. has D (columnOf b s j) (valueAt b s r j)) (and-r (ltb r (rowsOf b s)) _ k) j l,
+      )
+
+  pub valid-i : (D : List ℕ) (r : ℕ) → r < rowsOf b s → ((j : ℕ) → j < widthOf b s → has D (columnOf b s j) (valueAt b s r j) ≡ true)
+      → validRow D (sheetAt (bookOf b) s) r ≡ true
+  valid-i D r l h =
+      valid-iff D r ∙ and-i (lt-ltb r (rowsOf b s) l) (allBelow-i (widthOf b s) (λ j. has D (columnOf b s j) (valueAt b s r j)) h)
+
+  -- the value of a row at a place, in the decoded book
+  pub row-value : (r j : ℕ) → r < rowsOf b s → j < widthOf b s → getD (getD (sheetAt (bookOf b) s .rows) r []) j 0 ≡ valueAt b s r j
+  unfolding sheetOf rowOf
+  row-value r j l p =
+      ap (λ (x : Sheet). getD (getD (x .rows) r []) j 0) sheet-at
+      ∙ ap (λ (x : List ℕ). getD x j 0) (getD-tab [] (rowsOf b s) (rowOf b s) r l)
+      ∙ getD-tab 0 (widthOf b s) (λ j. byteAt b (rowPlace b s r + j)) j p
+      ∙ ap (byteAt b) (same-place r j ∙ ap (λ (f : ℕ). cellPlace f r j) (a .begins))
+
+  pub sheet-columns : (sheetAt (bookOf b) s) .columns ≡ tab (widthOf b s) (columnOf b s)
+  unfolding sheetOf
+  sheet-columns = ap (λ (x : Sheet). x .columns) sheet-at
+
+  pub columns-size : length ((sheetAt (bookOf b) s) .columns) ≡ widthOf b s
+  columns-size = ap (λ (l : List ℕ). length l) sheet-columns ∙ length-tab (widthOf b s) (columnOf b s)
+
+  pub column-value : (j : ℕ) → j < widthOf b s → getD ((sheetAt (bookOf b) s) .columns) j 0 ≡ columnOf b s j
+  column-value j l = ap (λ (x : List ℕ). getD x j 0) sheet-columns ∙ getD-tab 0 (widthOf b s) (columnOf b s) j l
+
+  pub sheet-in : List·Memᴰ (sheetAt (bookOf b) s) (bookOf b .sheets)
+  unfolding bookOf
+  sheet-in = in-list (record { columns = []; rows = [] }) (tab (sheetsOf b) (sheetOf b)) s (omega (arith, a .one, length-tab (sheetsOf b) (sheetOf b)))
+
+  pub formed : WellFormed (bookOf b)
+  formed = right-formed b right

@@ -1,0 +1,170 @@
+-- Laws of pass 2, second half: columns struck to what the rows carry. Assumes nothing.
+-- ---- domains that lose values
+use mathlib.Core.Path.{_∙_, _≡_, ap, refl, sym}
+use mathlib.Core.Bool.{_&&_, _||_, false, false≢true, not, true}
+use mathlib.Core.Logic.{_⊎_, inl, inr}
+use mathlib.Core.List.{List}
+use Prim.Native.Nat.{_%_, _*_, _+_, _<_, _^_, _≤_, ℕ}
+use native.Mathlib.Omega.{arith}
+use lib.Bits.{bitAnd, bitOr}
+use lib.Dec.{eqb}
+use lib.ListN.{getD, length}
+use lib.Seq.{getD-set-other, getD-set-same}
+use borrow.Author.Tests.{eq-eqb, eqb-true, lt-ltb}
+use Rattle.model.specs.Masks.{bit}
+use Rattle.model.specs.Stores.{IsStore, Within, has, meet, values}
+use Rattle.model.proofs.Masks.{bit-and, bit-or, bit-pow}
+use Rattle.model.proofs.Stores.{meet-has, meet-store, values-fall, within-refl, within-trans}
+use Rattle.model.proofs.Tests.{and-i, and-l, and-r, below, either, or-false-l, or-false-r}
+use Rattle.book.specs.Head.{columnOf, widthOf}
+use Rattle.words.specs.Sheets.{AtSheet, Carries, Loses, Struck, StruckPlace, Supported, domainAt}
+use Rattle.words.proofs.Places.{column-below, width-most}
+use Rattle.words.proofs.Walks.{shifted-one}
+
+pub loses-none : {D : List ℕ} → IsStore 16 D → Loses D D 0
+loses-none {D} d =
+    record { store = d; within = within-refl D; unchanged = λ c e. refl; fewer = omega arith; falls = λ l. absurd (omega arith) }
+
+-- none of the one and none of the other is none
+or-nothing : (a b : ℕ) → 0 < bitOr a b → (a ≡ 0 → b ≡ 0 → ⊥)
+or-nothing a b l e f = let z : bitOr a b ≡ 0 = rw (e, f) refl in omega arith
+
+pub loses-more : {D E F : List ℕ} {a b : ℕ} → Loses D E a → Loses E F b → Loses D F (bitOr a b)
+loses-more {D} {E} {F} {a} {b} p q =
+    record {
+      store = q .store;
+      within = within-trans (q .within) (p .within);
+      unchanged = λ c e.
+          let z : (bit c a || bit c b) ≡ false = sym (bit-or c a b) ∙ e in
+          q .unchanged c (or-false-r (bit c a) (bit c b) z) ∙ p .unchanged c (or-false-l (bit c a) (bit c b) z);
+      fewer = omega (arith, p .fewer, q .fewer);
+      falls = λ l. go (below 0 a) (below 0 b) (or-nothing a b l);
+    }
+  where
+    go : (0 < a) ⊎ (a ≤ 0) → (0 < b) ⊎ (b ≤ 0) → (a ≡ 0 → b ≡ 0 → ⊥) → values 16 F < values 16 D
+    go (inl x) y n = omega (arith, p .falls x, q .fewer)
+    go (inr x) (inl y) n = omega (arith, p .fewer, q .falls y)
+    go (inr x) (inr y) n = absurd (n (omega arith) (omega arith))
+
+-- ---- one place
+module _ {b : List ℕ} {first s : ℕ} (j y : ℕ) {D : List ℕ} (a : AtSheet b first s) (d : IsStore 16 D) where
+  -- a place past the width
+  pub struck-past : widthOf b s ≤ j → StruckPlace b s j y D D 0
+  struck-past l = record { loses = loses-none d; struck = λ c v e. inl e; left = λ v m e. absurd (omega arith) }
+
+  -- a column that keeps all its values
+  pub struck-all : {c : ℕ} → c ≡ columnOf b s j → bitAnd (getD D c 0) y ≡ getD D c 0 → StruckPlace b s j y D D 0
+  unfolding has
+  struck-all {c} ec e = record {
+    loses = loses-none d;
+    struck = λ k v m. inl m;
+    left = λ v l m. and-r (bit v (getD D c 0)) _ (sym (bit-and v (getD D c 0) y) ∙ ap (bit v) e ∙ (rw (← ec) at m));
+  }
+
+  -- a column that loses some
+  module _ {c : ℕ} (ec : c ≡ columnOf b s j) (l : j < widthOf b s) (n : bitAnd (getD D c 0) y ≡ getD D c 0 → ⊥) where
+    small : c < 16
+    small = omega (arith, ec, column-below a j l)
+
+    inside : c < length D
+    inside = omega (arith, small, d .columns)
+
+    met : (k v : ℕ) → has (meet D c y) k v ≡ (has D k v && (not (eqb c k) || bit v y))
+    met k v = meet-has D c y k v inside
+
+    met-within : Within (meet D c y) D
+    met-within = record { at = λ k v e. and-l (has D k v) _ (sym (met k v) ∙ e) }
+
+    pub struck-some : StruckPlace b s j y D (meet D c y) ((1 * 2 ^ c) % 2 ^ 32)
+    struck-some = record {
+      loses = record {
+        store = meet-store 16 D c y d small;
+        within = met-within;
+        unchanged = λ k e. getD-set-other D c k (bitAnd (getD D c 0) y) 0 (λ q. false≢true (sym (rw q at e) ∙ here));
+        fewer = omega (arith, fall);
+        falls = λ q. fall;
+      };
+      struck = λ k v e. go k v e (either (not (eqb c k) || bit v y));
+      left = λ v m e. own v (and-r (has D c v) _ (sym (met c v) ∙ (rw (← ec) at e)));
+    }
+      where
+        here : bit c ((1 * 2 ^ c) % 2 ^ 32) ≡ true
+        here = rw (shifted-one 32 c (omega (arith, small))) (bit-pow c)
+
+        fall : values 16 (meet D c y) < values 16 D
+        fall =
+            values-fall 16 (meet D c y) D (meet-store 16 D c y d small) d met-within
+            (λ e. n (sym (getD-set-same D c (bitAnd (getD D c 0) y) 0 inside) ∙ ap (λ (x : List ℕ). getD x c 0) e))
+
+        own : (v : ℕ) → (not (eqb c c) || bit v y) ≡ true → bit v y ≡ true
+        own v e = rw (eq-eqb c c refl) at e
+
+        go : (k v : ℕ) → has D k v ≡ true → ((not (eqb c k) || bit v y) ≡ true) ⊎ ((not (eqb c k) || bit v y) ≡ false)
+            → (has (meet D c y) k v ≡ true) ⊎ ((j < widthOf b s) × (columnOf b s j ≡ k) × (bit v y ≡ false))
+        go k v e (inl q) = inl (met k v ∙ and-i e q)
+        go k v e (inr q) = inr (l, sym ec ∙ same (either (eqb c k)) (or-false-l (not (eqb c k)) (bit v y) q), or-false-r (not (eqb c k)) (bit v y) q)
+          where
+            same : (eqb c k ≡ true) ⊎ (eqb c k ≡ false) → not (eqb c k) ≡ false → c ≡ k
+            same (inl x) z = eqb-true c k x
+            same (inr x) z = absurd (false≢true (sym z ∙ ap not x))
+
+-- ---- all places
+-- the places below n have been struck to the sets y
+pub record StruckTo (b : List ℕ) (s n : ℕ) (y D D′ : List ℕ) (lost : ℕ) : Type 0 where
+  pub loses : Loses D D′ lost
+  pub struck : (c v : ℕ) → has D c v ≡ true
+      → (has D′ c v ≡ true) ⊎ ((j : ℕ) × (j < n) × (j < widthOf b s) × (columnOf b s j ≡ c) × (bit v (getD y j 0) ≡ false))
+  pub left : (j v : ℕ) → j < n → j < widthOf b s → has D′ (columnOf b s j) v ≡ true → bit v (getD y j 0) ≡ true
+
+module _ {b : List ℕ} {s : ℕ} (y : List ℕ) {D : List ℕ} where
+  pub struck-one : {E : List ℕ} {lost : ℕ} → StruckPlace b s 0 (getD y 0 0) D E lost → StruckTo b s 1 y D E lost
+  struck-one {E} h = record {
+    loses = h .loses;
+    struck = λ c v e. go c v (h .struck c v e);
+    left = λ j v l m e. let z : j ≡ 0 = omega arith in rw z (h .left v (rw z at m) (rw z at e));
+  }
+    where
+      go : (c v : ℕ) → (has E c v ≡ true) ⊎ ((0 < widthOf b s) × (columnOf b s 0 ≡ c) × (bit v (getD y 0 0) ≡ false))
+          → (has E c v ≡ true) ⊎ ((j : ℕ) × (j < 1) × (j < widthOf b s) × (columnOf b s j ≡ c) × (bit v (getD y j 0) ≡ false))
+      go c v (inl e) = inl e
+      go c v (inr (l, e, f)) = inr (0, omega arith, l, e, f)
+
+  pub struck-more : {E F : List ℕ} {lost more : ℕ} (n : ℕ) → StruckTo b s n y D E lost → StruckPlace b s n (getD y n 0) E F more
+      → StruckTo b s (n + 1) y D F (bitOr lost more)
+  struck-more {E} {F} n p q = record {
+    loses = loses-more (p .loses) (q .loses);
+    struck = λ c v e. first c v (p .struck c v e);
+    left = λ j v l m e. go j v m e (below j n) l;
+  }
+    where
+      second : (c v : ℕ) → (has F c v ≡ true) ⊎ ((n < widthOf b s) × (columnOf b s n ≡ c) × (bit v (getD y n 0) ≡ false))
+          → (has F c v ≡ true) ⊎ ((j : ℕ) × (j < n + 1) × (j < widthOf b s) × (columnOf b s j ≡ c) × (bit v (getD y j 0) ≡ false))
+      second c v (inl e) = inl e
+      second c v (inr (l, e, f)) = inr (n, omega arith, l, e, f)
+
+      first : (c v : ℕ) → (has E c v ≡ true) ⊎ ((j : ℕ) × (j < n) × (j < widthOf b s) × (columnOf b s j ≡ c) × (bit v (getD y j 0) ≡ false))
+          → (has F c v ≡ true) ⊎ ((j : ℕ) × (j < n + 1) × (j < widthOf b s) × (columnOf b s j ≡ c) × (bit v (getD y j 0) ≡ false))
+      first c v (inl e) = second c v (q .struck c v e)
+      first c v (inr (j, k, l, e, f)) = inr (j, omega arith, l, e, f)
+
+      go : (j v : ℕ) → j < widthOf b s → has F (columnOf b s j) v ≡ true → (j < n) ⊎ (n ≤ j) → j < n + 1 → bit v (getD y j 0) ≡ true
+      go j v m e (inl l) k = p .left j v l m (q .loses .within .at (columnOf b s j) v e)
+      go j v m e (inr l) k = let z : j ≡ n = omega arith in rw z (q .left v (rw z at m) (rw z at e))
+
+-- the sets are what the rows carry of the domains
+pub struck-all-places : {b : List ℕ} {first s : ℕ} → AtSheet b first s → {W x y D E : List ℕ} {lost : ℕ}
+    → ((j : ℕ) → j < 4 → getD x j 0 ≡ domainAt b s D j) → Supported b s W x y → StruckTo b s 4 y D E lost → Struck b s W D E lost
+unfolding domainAt has
+struck-all-places {b} {first} {s} a {W} {x} {y} {D} {E} ex h p =
+    record {
+      loses = p .loses;
+      struck = λ c v e. go c v e (p .struck c v e);
+      left = λ j v l e. let m : j < 4 = omega (arith, width-most a .1) in h .sound j v m (p .left j v m l e);
+    }
+  where
+    go : (c v : ℕ) → has D c v ≡ true
+        → (has E c v ≡ true) ⊎ ((j : ℕ) × (j < 4) × (j < widthOf b s) × (columnOf b s j ≡ c) × (bit v (getD y j 0) ≡ false))
+        → (has E c v ≡ true) ⊎ ((j : ℕ) × (j < widthOf b s) × (columnOf b s j ≡ c) × (Carries b s W j v → ⊥))
+    go c v e (inl f) = inl f
+    go c v e (inr (j, m, l, q, f)) =
+        inr (j, l, q, λ r. false≢true (sym f ∙ h .complete j v m (rw (ex j m, lt-ltb j (widthOf b s) l, q) e) r))

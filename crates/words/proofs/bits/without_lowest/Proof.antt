@@ -1,0 +1,20 @@
+use Prim.Native.Nat.{_-_}
+use native.Mathlib.Omega.{arith}
+use lib.Bits.{and-le-r}
+use borrow.Author.Needs.{needs}
+use Rattle.model.proofs.Masks.{cleared}
+use Rattle.words.proofs.bits.without_lowest.Statement.{statement}
+use Rattle.words.proofs.bits.without_lowest.Tie as tie
+use Rattle.words.proofs.bits.without_lowest.Reads as reads
+use Rattle.words.proofs.bits.without_lowest.Lts as lts
+
+-- src/bits.rt:21:10
+sub-result : tie.Need-sub-result
+sub-result c = search needs
+
+-- src/bits.rt:17:1
+returns : tie.Need-returns
+returns c = (cleared 64 (c .args .x) (c .pre) (c .fits .x .fits), omega (arith, and-le-r (c .args .x) (c .args .x - 1)))
+
+pub without-lowest-spec : {M : Type 1} → statement M
+without-lowest-spec = tie.close (tie.spec sub-result returns)

@@ -1,0 +1,163 @@
+-- One sheet: which of its rows are set in the words, what is known of it while the engine works, and what a pass makes of it.
+--
+-- Names: W, X, N are the arrays of words, index positions and limits (one more than the limit), D the domains; a second set has a ′.
+use mathlib.Core.Path.{_≡_}
+use mathlib.Core.Bool.{Bool, _&&_, _||_, cond, false, not, true}
+use mathlib.Core.Logic.{_⊎_}
+use mathlib.Core.List.{List}
+use Prim.Native.Nat.{_%_, _*_, _/_, _<_, _^_, _≤_, ℕ}
+use lib.Dec.{ltb}
+use lib.ListN.{getD, length, set}
+use Rattle.model.specs.Books.{supported}
+use Rattle.model.specs.Masks.{bit}
+use Rattle.model.specs.States.{Indexed, ofSheet, sheetAt, validRow}
+use Rattle.model.specs.Stores.{IsStore, Within, has, values}
+use Rattle.model.specs.Tests.{allBelow}
+use Rattle.book.specs.Decoding.{bookOf}
+use Rattle.book.specs.Head.{columnOf, rowsOf, sheetsOf, widthOf}
+use Rattle.book.specs.Rows.{firstBlock}
+use Rattle.book.specs.Verdicts.{Accepted}
+use Rattle.words.specs.Cells.{Kept, cellAt}
+
+-- ---- the rows of a sheet
+-- the byte at which the rows of sheet s begin
+abbrev pub firstByte : List ℕ → ℕ → ℕ
+firstByte b s = 512 * firstBlock b s
+
+-- the value of row r of sheet s at place j
+abbrev pub valueAt : List ℕ → ℕ → ℕ → ℕ → ℕ
+valueAt b s r j = cellAt b (firstByte b s) r j
+
+-- s is a sheet of the accepted book b, and its rows begin at `first`
+pub record AtSheet (b : List ℕ) (first s : ℕ) : Type 0 where
+  pub accepted : Accepted b
+  pub one : s < sheetsOf b
+  pub begins : first ≡ firstByte b s
+
+-- row r of sheet s is set: "Row r is bit r mod 64 of word r div 64"
+unfoldable pub isSet : List ℕ → ℕ → ℕ → Bool
+isSet W s r = bit (r % 64) (ofSheet W s (r / 64))
+
+-- the arrays have their sizes: 64 words of 64 bits, 64 index positions, 8 limits
+pub record Sized (W X N : List ℕ) : Type 0 where
+  pub words : length W ≡ 64
+  pub bits : (i : ℕ) → getD W i 0 < 2 ^ 64
+  pub index : length X ≡ 64
+  pub limits : length N ≡ 8
+
+-- nothing but rows of the sheet is set
+pub record Inside (b : List ℕ) (s : ℕ) (W : List ℕ) : Type 0 where
+  pub at : (r : ℕ) → r < 512 → isSet W s r ≡ true → r < rowsOf b s
+
+-- the index and the limit of sheet s keep document 01's invariant
+abbrev pub IndexOf : ℕ → List ℕ → List ℕ → List ℕ → Type 0
+IndexOf s W X N = Indexed (ofSheet X s) (getD N s 0) (ofSheet W s)
+
+-- what the arrays hold of other sheets than s is as it was
+pub record OnlySheet (s : ℕ) (W X N W′ X′ N′ : List ℕ) : Type 0 where
+  pub words : (t i : ℕ) → i < 8 → (t ≡ s → ⊥) → ofSheet W′ t i ≡ ofSheet W t i
+  pub index : (t i : ℕ) → i < 8 → (t ≡ s → ⊥) → ofSheet X′ t i ≡ ofSheet X t i
+  pub limits : (t : ℕ) → (t ≡ s → ⊥) → getD N′ t 0 ≡ getD N t 0
+
+-- ---- pass 1
+-- entries i and j of a list change places
+unfoldable pub swapped : List ℕ → ℕ → ℕ → List ℕ
+swapped xs i j = set (set xs i (getD xs j 0)) j (getD xs i 0)
+
+-- the word at position p of the index is cut by the set d at place j. If it is zero then, it goes past the limit: positions from p on may
+-- change places, and those before p stay
+pub record WordCut (b : List ℕ) (s p j d : ℕ) (W X N W′ X′ N′ : List ℕ) : Type 0 where
+  pub word : Kept b (firstByte b s) (64 * ofSheet X s p) j d (ofSheet W s (ofSheet X s p)) (ofSheet W′ s (ofSheet X s p))
+  pub rest : (w : ℕ) → w < 8 → (w ≡ ofSheet X s p → ⊥) → ofSheet W′ s w ≡ ofSheet W s w
+  pub before : (i : ℕ) → i < p → ofSheet X′ s i ≡ ofSheet X s i
+  pub after : (i : ℕ) → p ≤ i → i < 8 → (k : ℕ) × (p ≤ k) × (k < 8) × (ofSheet X′ s i ≡ ofSheet X s k)
+  pub indexed : IndexOf s W′ X′ N′
+  pub limit : p ≤ getD N′ s 0
+  pub only : OnlySheet s W X N W′ X′ N′
+  pub sized : Sized W′ X′ N′
+
+-- the rows of sheet s are cut to those that pass a test
+pub record CutBy (test : ℕ → Bool) (s : ℕ) (W X N W′ X′ N′ : List ℕ) : Type 0 where
+  pub at : (r : ℕ) → r < 512 → isSet W′ s r ≡ (isSet W s r && test r)
+  pub indexed : IndexOf s W′ X′ N′
+  pub only : OnlySheet s W X N W′ X′ N′
+  pub sized : Sized W′ X′ N′
+
+-- the value of row r at place j is in d
+unfoldable pub valueIn : List ℕ → ℕ → ℕ → ℕ → ℕ → Bool
+valueIn b s j d r = bit (valueAt b s r j) d
+
+-- the column of place j is not in `changed`, or row r has a value of its domain there
+unfoldable pub passesAt : List ℕ → ℕ → ℕ → List ℕ → ℕ → ℕ → Bool
+passesAt b s changed D j r = not (bit (columnOf b s j) changed) || has D (columnOf b s j) (valueAt b s r j)
+
+-- the same at every place below n
+unfoldable pub passesBelow : List ℕ → ℕ → ℕ → List ℕ → ℕ → ℕ → Bool
+passesBelow b s changed D n r = allBelow n (λ j. passesAt b s changed D j r)
+
+-- ---- pass 2
+-- a row that is set has the value v at place j
+pub record Carries (b : List ℕ) (s : ℕ) (W : List ℕ) (j v : ℕ) : Type 0 where
+  pub row : ℕ
+  pub small : row < 512
+  pub set-row : isSet W s row ≡ true
+  pub value : valueAt b s row j ≡ v
+
+-- y has at each place no value but those that are carried, and of the values in x each that is carried
+pub record Supported (b : List ℕ) (s : ℕ) (W x y : List ℕ) : Type 0 where
+  pub sound : (j v : ℕ) → j < 4 → bit v (getD y j 0) ≡ true → Carries b s W j v
+  pub complete : (j v : ℕ) → j < 4 → bit v (getD x j 0) ≡ true → Carries b s W j v → bit v (getD y j 0) ≡ true
+
+-- the domain of place j, and 0 alone at a place past the width
+unfoldable pub domainAt : List ℕ → ℕ → List ℕ → ℕ → ℕ
+domainAt b s D j = cond (ltb j (widthOf b s)) (getD D (columnOf b s j) 0) 1
+
+-- domains lose values; `lost` are the columns that lose one
+pub record Loses (D D′ : List ℕ) (lost : ℕ) : Type 0 where
+  pub store : IsStore 16 D′
+  pub within : Within D′ D
+  pub unchanged : (c : ℕ) → bit c lost ≡ false → getD D′ c 0 ≡ getD D c 0
+  pub fewer : values 16 D′ ≤ values 16 D
+  pub falls : 0 < lost → values 16 D′ < values 16 D
+
+-- the column of place j, if it is one of the width, keeps its values that are in y, and no other column changes
+pub record StruckPlace (b : List ℕ) (s j y : ℕ) (D D′ : List ℕ) (lost : ℕ) : Type 0 where
+  pub loses : Loses D D′ lost
+  pub struck : (c v : ℕ) → has D c v ≡ true → (has D′ c v ≡ true) ⊎ ((j < widthOf b s) × (columnOf b s j ≡ c) × (bit v y ≡ false))
+  pub left : (v : ℕ) → j < widthOf b s → has D′ (columnOf b s j) v ≡ true → bit v y ≡ true
+
+-- of each column of the sheet the values that no row carries are struck, and no other
+pub record Struck (b : List ℕ) (s : ℕ) (W D D′ : List ℕ) (lost : ℕ) : Type 0 where
+  pub loses : Loses D D′ lost
+  pub struck : (c v : ℕ) → has D c v ≡ true
+      → (has D′ c v ≡ true) ⊎ ((j : ℕ) × (j < widthOf b s) × (columnOf b s j ≡ c) × (Carries b s W j v → ⊥))
+  pub left : (j v : ℕ) → j < widthOf b s → has D′ (columnOf b s j) v ≡ true → Carries b s W j v
+
+-- ---- what is known of a sheet while the engine works
+-- every row that is valid in D is set; a row that is set is a row of the sheet, with values in the domains of all columns but those in
+-- `changed`, which the sheet has not looked at since they lost a value
+pub record SheetKnown (b : List ℕ) (s changed : ℕ) (D W X N : List ℕ) : Type 0 where
+  pub inside : Inside b s W
+  pub all : (r : ℕ) → r < 512 → validRow D (sheetAt (bookOf b) s) r ≡ true → isSet W s r ≡ true
+  pub seen : (r j : ℕ) → r < 512 → isSet W s r ≡ true → j < widthOf b s → bit (columnOf b s j) changed ≡ false
+      → has D (columnOf b s j) (valueAt b s r j) ≡ true
+  pub indexed : IndexOf s W X N
+
+-- each value of each column of the sheet is carried
+pub record AllCarried (b : List ℕ) (s : ℕ) (D W : List ℕ) : Type 0 where
+  pub at : (j v : ℕ) → j < widthOf b s → has D (columnOf b s j) v ≡ true → Carries b s W j v
+
+-- that is known already, but for the opening, at which no sheet has been looked at
+pub record Carried (opening : Bool) (b : List ℕ) (s : ℕ) (D W : List ℕ) : Type 0 where
+  pub at : opening ≡ false → AllCarried b s D W
+
+-- sheet s has been looked at: its rows are those valid in the new domains, and these are the old ones without values that have no support.
+-- Where a row is left, every value is carried, and no column became empty
+pub record Revised (b : List ℕ) (s : ℕ) (D W X N D′ W′ X′ N′ : List ℕ) (lost : ℕ) : Type 0 where
+  pub loses : Loses D D′ lost
+  pub struck : (c v : ℕ) → has D c v ≡ true → (has D′ c v ≡ true) ⊎ (supported (bookOf b) D c v ≡ false)
+  pub known : SheetKnown b s 0 D′ W′ X′ N′
+  pub carried : 0 < getD N′ s 0 → AllCarried b s D′ W′
+  pub filled : 0 < getD N′ s 0 → (c v : ℕ) → has D c v ≡ true → (u : ℕ) × (has D′ c u ≡ true)
+  pub only : OnlySheet s W X N W′ X′ N′
+  pub sized : Sized W′ X′ N′

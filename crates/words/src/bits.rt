@@ -1,0 +1,38 @@
+// Masks as machine words: their lowest place, and a mask without it.
+ghost use mathlib.Core.Path.{_≡_};
+ghost use mathlib.Core.Bool.{true};
+ghost use Prim.Native.Nat.{_+_, _-_, _/_, _%_, _^_, _<_, _≤_};
+ghost use lib.Count.{trailingZeros};
+ghost use Rattle.model.specs.Masks.{bit, Cleared};
+
+// The lowest place of x.
+pub fn lowest(x: u64) -> u32
+    requires { ⌜ 0 < x ⌝ }
+    ensures { λ r. ⌜ (r ≡ trailingZeros 64 x) × (r < 64) × (bit r x ≡ true) ⌝ }
+{
+    u64::trailing_zeros(x)
+}
+
+// x without its lowest place.
+pub fn without_lowest(x: u64) -> u64
+    requires { ⌜ 0 < x ⌝ }
+    ensures { λ r. ⌜ Cleared x r (trailingZeros 64 x) × (r < x) ⌝ }
+{
+    x & (x - 1)
+}
+
+// Whether value v is in d, as 0 or 1.
+pub fn has(d: u32, v: u32) -> u64
+    requires { ⌜ v < 32 ⌝ }
+    ensures { λ r. ⌜ (r ≡ d / 2 ^ v % 2) × (r < 2) ⌝ }
+{
+    ((d >> v) % 2) as u64
+}
+
+// The value v alone.
+pub fn only(v: u32) -> u32
+    requires { ⌜ v < 32 ⌝ }
+    ensures { λ r. ⌜ r ≡ 2 ^ v ⌝ }
+{
+    1u32 << v
+}

@@ -1,0 +1,109 @@
+// Pass 1: the rows of a sheet cut by the columns that changed.
+use crate::cells::*;
+use crate::index::*;
+ghost use mathlib.Core.Path.{_≡_};
+ghost use mathlib.Core.Bool.{false};
+ghost use Prim.Native.Nat.{_+_, _*_, _<_, _≤_};
+ghost use lib.ListN.{getD};
+ghost use Rattle.book.specs.Head.{widthOf};
+ghost use Rattle.words.specs.Sheets.{AtSheet, Inside, IndexOf, Sized, WordCut, CutBy, valueIn, passesAt, passesBelow};
+
+// The word at position p of the index of sheet s, cut to the rows whose value at place j is in d. Whether a row was cut.
+fn cut_word(
+    book: &[u8],
+    first: usize,
+    s: usize,
+    p: usize,
+    j: usize,
+    d: u32,
+    live: &mut [u64; 64],
+    index: &mut [u8; 64],
+    limit: &mut [u8; 8],
+) -> bool
+    requires { ⌜ AtSheet (now book) first s × (j < 4) × Inside (now book) s (now live) × IndexOf s (now live) (now index) (now limit) × Sized (now live) (now index) (now limit) × (p < getD (now limit) s 0) ⌝ }
+    ensures { λ r. ⌜ WordCut (now (book .entry)) s p j d (now (live .entry)) (now (index .entry)) (now (limit .entry)) (now (live .exit)) (now (index .exit)) (now (limit .exit)) × (r ≡ false → now (live .exit) ≡ now (live .entry)) ⌝ }
+{
+    let w = word_number(index, s, p);
+    let at = 8 * s + w;
+    let word = live[at];
+    let keep = kept(book, first, 64 * w, j, d, word);
+    if keep == word {
+        return false;
+    }
+    live[at] = keep;
+    if keep == 0 {
+        drop_word(index, limit, s, p);
+        return true;
+    }
+    true
+}
+
+// The rows of sheet s cut to those whose value at place j is in d. Whether a row was cut.
+fn cut(
+    book: &[u8],
+    first: usize,
+    s: usize,
+    j: usize,
+    d: u32,
+    live: &mut [u64; 64],
+    index: &mut [u8; 64],
+    limit: &mut [u8; 8],
+) -> bool
+    requires { ⌜ AtSheet (now book) first s × (j < 4) × Inside (now book) s (now live) × IndexOf s (now live) (now index) (now limit) × Sized (now live) (now index) (now limit) ⌝ }
+    ensures { λ r. ⌜ CutBy (valueIn (now (book .entry)) s j d) s (now (live .entry)) (now (index .entry)) (now (limit .entry)) (now (live .exit)) (now (index .exit)) (now (limit .exit)) × (r ≡ false → now (live .exit) ≡ now (live .entry)) ⌝ }
+{
+    let mut any = false;
+    let mut p = nonzero_words(limit, s);
+    while 0 < p {
+        p -= 1;
+        any = any | cut_word(book, first, s, p, j, d, live, index, limit);
+    }
+    any
+}
+
+// The same by the column of place j, if it is in `changed`.
+fn cut_place(
+    book: &[u8],
+    first: usize,
+    s: usize,
+    j: usize,
+    changed: u32,
+    dom: &[u32; 16],
+    live: &mut [u64; 64],
+    index: &mut [u8; 64],
+    limit: &mut [u8; 8],
+) -> bool
+    requires { ⌜ AtSheet (now book) first s × (j < widthOf (now book) s) × Inside (now book) s (now live) × IndexOf s (now live) (now index) (now limit) × Sized (now live) (now index) (now limit) ⌝ }
+    ensures { λ r. ⌜ CutBy (passesAt (now (book .entry)) s changed (now (dom .entry)) j) s (now (live .entry)) (now (index .entry)) (now (limit .entry)) (now (live .exit)) (now (index .exit)) (now (limit .exit)) × (r ≡ false → now (live .exit) ≡ now (live .entry)) ⌝ }
+{
+    let c = book::head::column(book, s, j);
+    if (changed >> c) % 2 == 1 {
+        return cut(book, first, s, j, dom[c], live, index, limit);
+    }
+    false
+}
+
+// The rows of sheet s cut by each of its columns in `changed`. Whether a row was cut, or `opening`.
+pub fn cut_places(
+    book: &[u8],
+    first: usize,
+    s: usize,
+    changed: u32,
+    opening: bool,
+    dom: &[u32; 16],
+    live: &mut [u64; 64],
+    index: &mut [u8; 64],
+    limit: &mut [u8; 8],
+) -> bool
+    requires { ⌜ AtSheet (now book) first s × Inside (now book) s (now live) × IndexOf s (now live) (now index) (now limit) × Sized (now live) (now index) (now limit) ⌝ }
+    ensures { λ r. ⌜ CutBy (passesBelow (now (book .entry)) s changed (now (dom .entry)) (widthOf (now (book .entry)) s)) s (now (live .entry)) (now (index .entry)) (now (limit .entry)) (now (live .exit)) (now (index .exit)) (now (limit .exit)) × (r ≡ false → (opening ≡ false) × (now (live .exit) ≡ now (live .entry))) ⌝ }
+{
+    let k = book::head::width(book, s);
+    let mut any = opening;
+    let mut j: usize = 0;
+    while j < k {
+        any = any | cut_place(book, first, s, j, changed, dom, live, index, limit);
+        j += 1;
+    }
+    any
+}

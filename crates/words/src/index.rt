@@ -1,0 +1,40 @@
+// The index of a sheet's words: which of the eight are not zero.
+//
+//     position   0   1   2 | 3   4   5   6   7        limit (held as one more) 3
+//     index      5   0   2 | 7   1   6   3   4        words 5, 0 and 2 have a row that is set, the others are zero
+ghost use mathlib.Core.Path.{_≡_};
+ghost use Prim.Native.Nat.{_+_, _-_, _*_, _<_, _≤_};
+ghost use lib.ListN.{getD, set};
+ghost use Rattle.model.specs.States.{ofSheet};
+ghost use Rattle.words.specs.Sheets.{swapped};
+
+// How many words of sheet s are not zero.
+pub fn nonzero_words(limit: &[u8; 8], s: usize) -> usize
+    requires { ⌜ s < 8 ⌝ }
+    ensures { λ r. ⌜ (r ≡ getD (now (limit .entry)) s 0) × (r < 256) ⌝ }
+{
+    book::fields::wide(limit[s])
+}
+
+// The word number at position p of the index of sheet s.
+pub fn word_number(index: &[u8; 64], s: usize, p: usize) -> usize
+    requires { ⌜ (s < 8) × (p < 8) ⌝ }
+    ensures { λ r. ⌜ r ≡ ofSheet (now (index .entry)) s p ⌝ }
+{
+    book::fields::wide(index[8 * s + p])
+}
+
+// Position p of the index of sheet s, whose word became zero, goes past the limit: it changes places with the last one before the limit.
+pub fn drop_word(index: &mut [u8; 64], limit: &mut [u8; 8], s: usize, p: usize)
+    requires { ⌜ (s < 8) × (p < getD (now limit) s 0) × (getD (now limit) s 0 ≤ 8) ⌝ }
+    ensures { λ r. ⌜ (now (index .exit) ≡ swapped (now (index .entry)) (8 * s + p) (8 * s + (getD (now (limit .entry)) s 0 - 1))) × (now (limit .exit) ≡ set (now (limit .entry)) s (getD (now (limit .entry)) s 0 - 1)) ⌝ }
+{
+    let n = limit[s] - 1;
+    let last = 8 * s + book::fields::wide(n);
+    let at = 8 * s + p;
+    let x = index[at];
+    let y = index[last];
+    index[at] = y;
+    index[last] = x;
+    limit[s] = n;
+}

@@ -1,0 +1,91 @@
+// Pass 2, second half: the columns of a sheet struck to what its rows carry; and the whole look at a sheet.
+use crate::cells::*;
+use crate::cut::*;
+use crate::gather::*;
+ghost use mathlib.Core.Path.{_≡_};
+ghost use mathlib.Core.Bool.{false};
+ghost use Prim.Native.Nat.{_+_, _*_, _<_, _≤_};
+ghost use lib.ListN.{getD};
+ghost use Rattle.model.specs.Stores.{IsStore};
+ghost use Rattle.book.specs.Head.{widthOf, columnOf};
+ghost use Rattle.words.specs.Cells.{fourOf};
+ghost use Rattle.words.specs.Sheets.{AtSheet, Inside, IndexOf, Sized, domainAt, Struck, StruckPlace, Carried, SheetKnown, AllCarried, Revised};
+
+// The domain of place j of sheet s; of a place that is not used, 0 alone, which is what every row has there.
+fn domain(book: &[u8], first: usize, s: usize, j: usize, dom: &[u32; 16]) -> u32
+    requires { ⌜ AtSheet (now book) first s × (j < 4) ⌝ }
+    ensures { λ r. ⌜ r ≡ domainAt (now (book .entry)) s (now (dom .entry)) j ⌝ }
+{
+    if j < book::head::width(book, s) {
+        return dom[book::head::column(book, s, j)];
+    }
+    1
+}
+
+// The column of place j of sheet s struck to the values in y. The column as a bit, if it lost one.
+fn struck(book: &[u8], first: usize, s: usize, j: usize, y: u32, dom: &mut [u32; 16]) -> u32
+    requires { ⌜ AtSheet (now book) first s × (j < 4) × IsStore 16 (now dom) ⌝ }
+    ensures { λ r. ⌜ StruckPlace (now (book .entry)) s j y (now (dom .entry)) (now (dom .exit)) r ⌝ }
+{
+    if j < book::head::width(book, s) {
+        let c = book::head::column(book, s, j);
+        let d = dom[c];
+        let e = d & y;
+        if e != d {
+            dom[c] = e;
+            return 1u32 << c;
+        }
+    }
+    0
+}
+
+// Every column of sheet s struck to what its rows carry. The columns that lost a value.
+fn strike(
+    book: &[u8],
+    first: usize,
+    s: usize,
+    dom: &mut [u32; 16],
+    live: &[u64; 64],
+    index: &[u8; 64],
+    limit: &[u8; 8],
+) -> u32
+    requires { ⌜ AtSheet (now book) first s × Inside (now book) s (now live) × IndexOf s (now live) (now index) (now limit) × Sized (now live) (now index) (now limit) × IsStore 16 (now dom) ⌝ }
+    ensures { λ r. ⌜ Struck (now (book .entry)) s (now (live .entry)) (now (dom .entry)) (now (dom .exit)) r ⌝ }
+{
+    let x = Four {
+        a: domain(book, first, s, 0, dom),
+        b: domain(book, first, s, 1, dom),
+        c: domain(book, first, s, 2, dom),
+        d: domain(book, first, s, 3, dom),
+    };
+    let y = carried(book, first, s, x, live, index, limit);
+    let a = struck(book, first, s, 0, y.a, dom);
+    let b = struck(book, first, s, 1, y.b, dom);
+    let c = struck(book, first, s, 2, y.c, dom);
+    let d = struck(book, first, s, 3, y.d, dom);
+    a | b | c | d
+}
+
+// Sheet s looked at, whose columns in `changed` lost values since it was last looked at. The columns that lose a value now.
+pub fn revise(
+    book: &[u8],
+    first: usize,
+    s: usize,
+    changed: u32,
+    opening: bool,
+    dom: &mut [u32; 16],
+    live: &mut [u64; 64],
+    index: &mut [u8; 64],
+    limit: &mut [u8; 8],
+) -> u32
+    requires { ⌜ AtSheet (now book) first s × SheetKnown (now book) s changed (now dom) (now live) (now index) (now limit) × Sized (now live) (now index) (now limit) × IsStore 16 (now dom) × Carried opening (now book) s (now dom) (now live) ⌝ }
+    ensures { λ r. ⌜ Revised (now (book .entry)) s (now (dom .entry)) (now (live .entry)) (now (index .entry)) (now (limit .entry)) (now (dom .exit)) (now (live .exit)) (now (index .exit)) (now (limit .exit)) r ⌝ }
+{
+    if cut_places(book, first, s, changed, opening, dom, live, index, limit) {
+        if limit[s] == 0 {
+            return 0;
+        }
+        return strike(book, first, s, dom, live, index, limit);
+    }
+    0
+}

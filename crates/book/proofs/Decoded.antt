@@ -99,7 +99,7 @@ module _ (b : List ℕ) (h : RightBook b) where
 
 -- ---- the decoded book
 -- an element of a table is one of its function's values
-tab-mem : {A : Type 0} (n : ℕ) (f : ℕ → A) (x : A) → List·Memᴰ x (tab n f) → (i : ℕ) × (i < n) × (x ≡ f i)
+pub tab-mem : {A : Type 0} (n : ℕ) (f : ℕ → A) (x : A) → List·Memᴰ x (tab n f) → (i : ℕ) × (i < n) × (x ≡ f i)
 unfolding tab
 tab-mem zero f x m = absurd (List·Memᴰ·not-nil m)
 tab-mem (suc n) f x (List·Memᴰ·head e) = (0, omega arith, e)

@@ -67,8 +67,8 @@ module _ {b : List ℕ} {first s : ℕ} (a : AtSheet b first s) (p j d : ℕ) (W
       rw (← ew, ← a .begins, e, ← eword) k
 
   -- no row is cut
-  pub word-same : keep ≡ word → WordCut b s p j d W X N W X N
-  word-same e = record {
+  pub word-uncut : keep ≡ word → WordCut b s p j d W X N W X N
+  word-uncut e = record {
     word = kept-here W (sym eword ∙ sym e);
     rest = λ i q n. refl;
     before = λ i q. refl;

@@ -21,7 +21,7 @@ use Rattle.words.proofs.Cuts.{row-word}
 use Rattle.words.proofs.Indexes.{past-limit}
 use Rattle.words.proofs.Walks.{four-all}
 
-complement : (k y v : ℕ) → y < 2 ^ k → v < k → bit v (2 ^ k - 1 - y) ≡ not (bit v y)
+pub complement : (k y v : ℕ) → y < 2 ^ k → v < k → bit v (2 ^ k - 1 - y) ≡ not (bit v y)
 complement zero y v l h = absurd (omega arith)
 complement (suc k) y zero l h =
     bit-zero (2 ^ suc k - 1 - y) ∙ digit (y % 2) ((2 ^ suc k - 1 - y) % 2) (omega (arith, pow-succ' 2 k)) (omega arith) ∙ ap not (sym (bit-zero y))

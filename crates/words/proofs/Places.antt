@@ -81,7 +81,7 @@ module _ {b : List ℕ} {first s : ℕ} (a : AtSheet b first s) where
   valid-tab zero D f g = refl
   valid-tab (suc n) D f g = ap (λ (t : Bool). has D (f 0) (g 0) && t) (valid-tab n D (λ i. f (suc i)) (λ i. g (suc i)))
 
-  sheet-at : sheetAt (bookOf b) s ≡ sheetOf b s
+  pub sheet-at : sheetAt (bookOf b) s ≡ sheetOf b s
   unfolding bookOf
   sheet-at = getD-tab (record { columns = []; rows = [] }) (sheetsOf b) (sheetOf b) s (a .one)
 

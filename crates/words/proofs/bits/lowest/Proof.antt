@@ -2,10 +2,7 @@ use mathlib.Core.Path.{refl}
 use Rattle.model.proofs.Masks.{cleared, lowest-lt}
 use Rattle.words.proofs.bits.lowest.Statement.{statement}
 use Rattle.words.proofs.bits.lowest.Tie as tie
-use Rattle.words.proofs.bits.lowest.Reads as reads
-use Rattle.words.proofs.bits.lowest.Lts as lts
 
--- src/bits.rt:9:1
 returns : tie.Need-returns
 returns c = (refl, lowest-lt 64 (c .args .x) (c .pre) (c .fits .x .fits), cleared 64 (c .args .x) (c .pre) (c .fits .x .fits) .here)
 

@@ -5,14 +5,10 @@ use borrow.Author.Needs.{needs}
 use Rattle.model.proofs.Masks.{cleared}
 use Rattle.words.proofs.bits.without_lowest.Statement.{statement}
 use Rattle.words.proofs.bits.without_lowest.Tie as tie
-use Rattle.words.proofs.bits.without_lowest.Reads as reads
-use Rattle.words.proofs.bits.without_lowest.Lts as lts
 
--- src/bits.rt:21:10
 sub-result : tie.Need-sub-result
 sub-result c = search needs
 
--- src/bits.rt:17:1
 returns : tie.Need-returns
 returns c = (cleared 64 (c .args .x) (c .pre) (c .fits .x .fits), omega (arith, and-le-r (c .args .x) (c .args .x - 1)))
 

@@ -7,11 +7,6 @@ use Rattle.words.specs.Cells.{fourOf}
 use Rattle.words.proofs.Walks.{GatheredTo, Part, gather-end, gather-row, gather-start, part-cleared, whole}
 use Rattle.words.proofs.cells.gathered.Statement.{statement}
 use Rattle.words.proofs.cells.gathered.Tie as tie
-use Rattle.words.proofs.cells.gathered.Reads as reads
-use Rattle.words.proofs.cells.gathered.Lts as lts
-use Rattle.words.proofs.bits.lowest.Reads as lowest-reads
-use Rattle.words.proofs.bits.without_lowest.Reads as without-lowest-reads
-use Rattle.words.proofs.cells.with_row.Reads as with-row-reads
 
 abbrev Inv-loop : tie.InvT-loop
 Inv-loop book first from word left₀ g₀ left g = GatheredTo book first from word left (fourOf (g₀ .a) (g₀ .b) (g₀ .c) (g₀ .d)) (fourOf (g .a) (g .b) (g .c) (g .d)) × Part left word
@@ -19,40 +14,31 @@ Inv-loop book first from word left₀ g₀ left g = GatheredTo book first from w
 abbrev μ-loop : tie.MeasureT-loop
 μ-loop book first from word left₀ g₀ left g = left
 
--- src/cells.rt:64:5
 loop-holds : tie.Need-loop-holds Inv-loop μ-loop
 loop-holds c = (gather-start, whole _)
 
--- src/cells.rt:65:13
 lowest-requires : tie.Need-lowest-requires Inv-loop μ-loop
 lowest-requires c κs = search needs
 
--- src/cells.rt:66:43
 cast-with-row : tie.Need-cast-with-row Inv-loop μ-loop
 cast-with-row c = search needs
 
--- src/cells.rt:66:35
 add-with-row : tie.Need-add-with-row Inv-loop μ-loop
 add-with-row c = search needs
 
--- src/cells.rt:66:9
 with-row-requires : tie.Need-with-row-requires Inv-loop μ-loop
 with-row-requires c κs = let e = c .before .before .loop .inv .1 .at _ (c .lowest .ensures .2) in (c .before .before .before .before .pre .1 .there _ e, c .before .before .before .before .pre .1 .value _ 0 e (omega arith), c .before .before .before .before .pre .1 .value _ 1 e (omega arith), c .before .before .before .before .pre .1 .value _ 2 e (omega arith), c .before .before .before .before .pre .1 .value _ 3 e (omega arith))
 
--- src/cells.rt:67:9
 without-lowest-requires : tie.Need-without-lowest-requires Inv-loop μ-loop
 without-lowest-requires c κs = search needs
 
--- src/cells.rt:64:5
 loop-less : tie.Need-loop-less Inv-loop μ-loop
 loop-less c = search needs
 
--- src/cells.rt:64:5
 loop-again : tie.Need-loop-again Inv-loop μ-loop
 loop-again c = let t = subst⁻¹ (λ (t : ℕ). Cleared (c .before .before .before .before .loop .left) (c .without-lowest .result) t) (c .before .before .lowest .ensures .0) (c .without-lowest .ensures .0) in
     (gather-row _ _ _ _ (c .before .before .before .before .loop .inv .1) t (c .before .before .before .before .loop .inv .0) (c .before .with-row .ensures .0) (c .before .with-row .ensures .1) (c .before .with-row .ensures .2) (c .before .with-row .ensures .3), part-cleared t (c .before .before .before .before .loop .inv .1))
 
--- src/cells.rt:58:1
 returns : tie.Need-returns Inv-loop μ-loop
 returns c = gather-end (rw (c .loop-test .left) at (c .before .loop .inv .0))
 

@@ -6,12 +6,6 @@ use Rattle.model.specs.Masks.{Cleared}
 use Rattle.words.proofs.Walks.{Part, Walked, cell-in, cellIn, kept-end, part-cleared, walked-start, walked-turn, whole}
 use Rattle.words.proofs.cells.kept.Statement.{statement}
 use Rattle.words.proofs.cells.kept.Tie as tie
-use Rattle.words.proofs.cells.kept.Reads as reads
-use Rattle.words.proofs.cells.kept.Lts as lts
-use Rattle.words.proofs.bits.has.Reads as has-reads
-use Rattle.words.proofs.bits.lowest.Reads as lowest-reads
-use Rattle.words.proofs.bits.without_lowest.Reads as without-lowest-reads
-use Rattle.words.proofs.cells.cell.Reads as cell-reads
 
 abbrev Inv-loop : tie.InvT-loop
 Inv-loop book first from j d word left₀ keep₀ left keep = Walked (cellIn book first from j d) word left keep × Part left word
@@ -19,52 +13,40 @@ Inv-loop book first from j d word left₀ keep₀ left keep = Walked (cellIn boo
 abbrev μ-loop : tie.MeasureT-loop
 μ-loop book first from j d word left₀ keep₀ left keep = left
 
--- src/cells.rt:27:5
 loop-holds : tie.Need-loop-holds Inv-loop μ-loop
 loop-holds c = (walked-start _ _, whole _)
 
--- src/cells.rt:28:13
 lowest-requires : tie.Need-lowest-requires Inv-loop μ-loop
 lowest-requires c κs = search needs
 
--- src/cells.rt:29:43
 cast-cell : tie.Need-cast-cell Inv-loop μ-loop
 cast-cell c = search needs
 
--- src/cells.rt:29:35
 add-cell : tie.Need-add-cell Inv-loop μ-loop
 add-cell c = search needs
 
--- src/cells.rt:29:13
 cell-requires : tie.Need-cell-requires Inv-loop μ-loop
 cell-requires c κs = omega (arith, c .before .before .before .before .pre .1, c .before .before .before .before .pre .2 .there _ (c .before .before .loop .inv .1 .at _ (c .lowest .ensures .2)))
 
--- src/cells.rt:30:24
 has-requires : tie.Need-has-requires Inv-loop μ-loop
 has-requires c κs = rw (c .cell .ensures) (c .before .before .before .before .before .pre .2 .value _ _ (c .before .before .before .loop .inv .1 .at _ (c .before .lowest .ensures .2)) (c .before .before .before .before .before .pre .1))
 
--- src/cells.rt:30:37
 cast-keep : tie.Need-cast-keep Inv-loop μ-loop
 cast-keep c = search needs
 
--- src/cells.rt:30:24
 shl-keep : tie.Need-shl-keep Inv-loop μ-loop
 shl-keep c = search needs
 
--- src/cells.rt:31:9
 without-lowest-requires : tie.Need-without-lowest-requires Inv-loop μ-loop
 without-lowest-requires c κs = search needs
 
--- src/cells.rt:27:5
 loop-less : tie.Need-loop-less Inv-loop μ-loop
 loop-less c = search needs
 
--- src/cells.rt:27:5
 loop-again : tie.Need-loop-again Inv-loop μ-loop
 loop-again c = let t = subst⁻¹ (λ (t : ℕ). Cleared (c .before .before .before .before .before .loop .left) (c .without-lowest .result) t) (c .before .before .before .lowest .ensures .0) (c .without-lowest .ensures .0) in
     (walked-turn (c .before .before .before .before .before .loop .inv .0) t (c .before .has .ensures .1) (c .before .before .before .lowest .ensures .1) (cell-in _ _ _ _ _ _ _ _ (c .before .before .cell .ensures) (c .before .has .ensures .0)), part-cleared t (c .before .before .before .before .before .loop .inv .1))
 
--- src/cells.rt:21:1
 returns : tie.Need-returns Inv-loop μ-loop
 returns c = kept-end (rw (c .loop-test .left) at (c .before .loop .inv .0))
 

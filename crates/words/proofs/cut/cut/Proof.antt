@@ -7,10 +7,6 @@ use Rattle.words.proofs.Cuts.{Cutting, cutting-end, cutting-inside, cut
 use Rattle.words.proofs.Places.{eight}
 use Rattle.words.proofs.cut.cut.Statement.{statement}
 use Rattle.words.proofs.cut.cut.Tie as tie
-use Rattle.words.proofs.cut.cut.Reads as reads
-use Rattle.words.proofs.cut.cut.Lts as lts
-use Rattle.words.proofs.cut.cut_word.Reads as cut-word-reads
-use Rattle.words.proofs.index.nonzero_words.Reads as nonzero-words-reads
 
 abbrev Inv-loop : tie.InvT-loop
 Inv-loop book first s j d live₀ index₀ limit₀ any₀ p₀ live index limit any p = Cutting book s p j d live₀ index₀ limit₀ live index limit any × Inside book s live
@@ -18,32 +14,25 @@ Inv-loop book first s j d live₀ index₀ limit₀ any₀ p₀ live index limit
 abbrev μ-loop : tie.MeasureT-loop
 μ-loop book first s j d live₀ index₀ limit₀ any₀ p₀ live index limit any p = p
 
--- src/cut.rt:37:9
 nonzero-words-requires : tie.Need-nonzero-words-requires Inv-loop μ-loop
 nonzero-words-requires c κs = eight (c .before .before .pre .0)
 
--- src/cut.rt:38:5
 loop-holds : tie.Need-loop-holds Inv-loop μ-loop
 loop-holds c = (cutting-start _ _ _ _ _ _ _ _ (c .before .before .before .pre .3) (c .before .before .before .pre .4) (c .nonzero-words .ensures .0), c .before .before .before .pre .2)
 
--- src/cut.rt:39:9
 sub-p : tie.Need-sub-p Inv-loop μ-loop
 sub-p c = search needs
 
--- src/cut.rt:40:21
 cut-word-requires : tie.Need-cut-word-requires Inv-loop μ-loop
 cut-word-requires c κs = search needs
 
--- src/cut.rt:38:5
 loop-less : tie.Need-loop-less Inv-loop μ-loop
 loop-less c = search needs
 
--- src/cut.rt:38:5
 loop-again : tie.Need-loop-again Inv-loop μ-loop
 loop-again c = let e : c .before .before .before .before .before .loop .p ≡ c .before .before .before .before .before .loop .p - 1 + 1 = omega (arith, c .before .before .before .before .loop-test .taken) in
     let h = cutting-more (rw e at (c .before .before .before .before .before .loop .inv .0)) (c .cut-word .ensures .0) (c .cut-word .ensures .1) in (h, cutting-inside h (c .before .before .before .before .before .before .before .before .before .pre .2))
 
--- src/cut.rt:32:1
 returns : tie.Need-returns Inv-loop μ-loop
 returns c = let e : c .before .loop .p ≡ 0 = omega (arith, c .loop-test .left) in (cutting-end (rw e at (c .before .loop .inv .0)), c .before .loop .inv .0 .same)
 

@@ -7,40 +7,28 @@ use Rattle.words.proofs.Cuts.{bit-is, bit-not, cut-changed, cut-unchang
 use Rattle.words.proofs.Places.{column-below, eight, head-there, width-most}
 use Rattle.words.proofs.cut.cut_place.Statement.{statement}
 use Rattle.words.proofs.cut.cut_place.Tie as tie
-use Rattle.words.proofs.cut.cut_place.Reads as reads
-use Rattle.words.proofs.cut.cut_place.Lts as lts
-use Rattle.book.proofs.head.column.Reads as column-reads
-use Rattle.words.proofs.cut.cut.Reads as cut-reads
 
--- src/cut.rt:50:9
 column-requires : tie.Need-column-requires
 column-requires c κs = (head-there (c .before .pre .0), eight (c .before .pre .0), omega (arith, c .before .pre .1, width-most (c .before .pre .0) .1))
 
--- src/cut.rt:51:20
 cast-if1 : tie.Need-cast-if1
 cast-if1 c = search needs
 
--- src/cut.rt:51:9
 shr-if1 : tie.Need-shr-if1
 shr-if1 c = omega (arith, c .column .ensures .0, column-below (c .before .before .pre .0) _ (c .before .before .pre .1))
 
--- src/cut.rt:52:39
 mul-cut : tie.Need-mul-cut
 mul-cut c = search needs
 
--- src/cut.rt:52:39
 element-copy-out-cut : tie.Need-element-copy-out-cut
 element-copy-out-cut c = omega (arith, c .before .column .ensures .0, column-below (c .before .before .before .pre .0) _ (c .before .before .before .pre .1))
 
--- src/cut.rt:52:9
 cut-requires : tie.Need-cut-requires
 cut-requires c κs = (c .before .before .before .before .before .before .before .pre .0, omega (arith, c .before .before .before .before .before .before .before .pre .1, width-most (c .before .before .before .before .before .before .before .pre .0) .1), c .before .before .before .before .before .before .before .pre .2, c .before .before .before .before .before .before .before .pre .3, c .before .before .before .before .before .before .before .pre .4)
 
--- src/cut.rt:52:9
 returns : tie.Need-returns
 returns c = (cut-changed _ _ _ _ _ _ (bit-is _ _ _ (c .before .before .before .before .before .before .column .ensures .0) (c .before .before .before .before .before .if1 .taken)) (ap (λ (i : ℕ). getD (c .before .before .before .before .before .before .before .before .args .dom .now) i 0) (c .before .before .before .before .before .before .column .ensures .0)) (c .cut .ensures .0), c .cut .ensures .1)
 
--- src/cut.rt:46:1
 returns-2 : tie.Need-returns-2
 returns-2 c = (cut-unchanged _ _ _ _ _ _ _ _ (c .before .before .before .pre .3) (c .before .before .before .pre .4) (bit-not _ _ _ (c .before .column .ensures .0) (c .if1 .left)), λ e. refl)
 

@@ -10,10 +10,6 @@ use Rattle.words.proofs.Cuts.{cut-inside, cut-more, cut-none}
 use Rattle.words.proofs.Places.{eight, head-there}
 use Rattle.words.proofs.cut.cut_places.Statement.{statement}
 use Rattle.words.proofs.cut.cut_places.Tie as tie
-use Rattle.words.proofs.cut.cut_places.Reads as reads
-use Rattle.words.proofs.cut.cut_places.Lts as lts
-use Rattle.book.proofs.head.width.Reads as width-reads
-use Rattle.words.proofs.cut.cut_place.Reads as cut-place-reads
 
 abbrev Inv-loop : tie.InvT-loop
 Inv-loop book first s changed opening dom live₀ index₀ limit₀ k any₀ j₀ live index limit any j = CutBy (passesBelow book s changed dom j) s live₀ index₀ limit₀ live index limit × Inside book s live × (j ≤ k) × (any ≡ false → (opening ≡ false) × (live ≡ live₀))
@@ -21,31 +17,24 @@ Inv-loop book first s changed opening dom live₀ index₀ limit₀ k any₀ j�
 abbrev μ-loop : tie.MeasureT-loop
 μ-loop book first s changed opening dom live₀ index₀ limit₀ k any₀ j₀ live index limit any j = k - j
 
--- src/cut.rt:62:9
 width-requires : tie.Need-width-requires Inv-loop μ-loop
 width-requires c κs = (head-there (c .before .pre .0), eight (c .before .pre .0))
 
--- src/cut.rt:65:5
 loop-holds : tie.Need-loop-holds Inv-loop μ-loop
 loop-holds c = (cut-none _ _ _ _ _ _ _ (c .before .before .pre .2) (c .before .before .pre .3), c .before .before .pre .1, omega arith, λ e. (e, refl))
 
--- src/cut.rt:66:21
 cut-place-requires : tie.Need-cut-place-requires Inv-loop μ-loop
 cut-place-requires c κs = search needs
 
--- src/cut.rt:67:9
 add-j : tie.Need-add-j Inv-loop μ-loop
 add-j c = search needs
 
--- src/cut.rt:65:5
 loop-less : tie.Need-loop-less Inv-loop μ-loop
 loop-less c = search needs
 
--- src/cut.rt:65:5
 loop-again : tie.Need-loop-again Inv-loop μ-loop
 loop-again c = (cut-more _ _ _ _ _ (c .before .before .before .before .before .loop .inv .0) (c .cut-place .ensures .0), cut-inside (c .cut-place .ensures .0) (c .before .before .before .before .before .loop .inv .1), omega (arith, c .before .before .before .before .loop-test .taken), λ e. let f = c .before .before .before .before .before .loop .inv .3 (or-false-l (c .before .before .before .before .before .loop .any) (c .cut-place .result) e) in (f .0, c .cut-place .ensures .1 (or-false-r (c .before .before .before .before .before .loop .any) (c .cut-place .result) e) ∙ f .1))
 
--- src/cut.rt:58:1
 returns : tie.Need-returns Inv-loop μ-loop
 returns c = let e : c .before .loop .j ≡ widthOf (c .before .before .before .before .args .book .now) (c .before .before .before .before .args .s) = omega (arith, c .loop-test .left, c .before .loop .inv .2, c .before .before .width .ensures .0) in (rw e at (c .before .loop .inv .0), c .before .loop .inv .3)
 

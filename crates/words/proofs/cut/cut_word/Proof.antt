@@ -3,66 +3,48 @@ use mathlib.Core.Bool.{false≢true}
 use Prim.Native.Nat.{_<_}
 use native.Mathlib.Omega.{arith}
 use borrow.Author.Needs.{needs}
-use Rattle.words.proofs.Cuts.{word-less, word-readable, word-same, word-zero}
+use Rattle.words.proofs.Cuts.{word-less, word-readable, word-uncut, word-zero}
 use Rattle.words.proofs.Places.{eight}
 use Rattle.words.proofs.cut.cut_word.Statement.{statement}
 use Rattle.words.proofs.cut.cut_word.Tie as tie
-use Rattle.words.proofs.cut.cut_word.Reads as reads
-use Rattle.words.proofs.cut.cut_word.Lts as lts
-use Rattle.words.proofs.cells.kept.Reads as kept-reads
-use Rattle.words.proofs.index.drop_word.Reads as drop-word-reads
-use Rattle.words.proofs.index.word_number.Reads as word-number-reads
 
--- src/cut.rt:16:9
 word-number-requires : tie.Need-word-number-requires
 word-number-requires c κs = (eight (c .before .before .pre .0), omega (arith, c .before .before .pre .3 .few, c .before .before .pre .5))
 
--- src/cut.rt:17:14
 mul-at : tie.Need-mul-at
 mul-at c = search (needs, eight (c .before .before .before .pre .0))
 
--- src/cut.rt:17:14
 add-at : tie.Need-add-at
 add-at c = let w : c .word-number .result < 8 = rw (c .word-number .ensures) (c .before .before .before .pre .3 .each _ (omega (arith, c .before .before .before .pre .3 .few, c .before .before .before .pre .5))) in search (needs, eight (c .before .before .before .pre .0), w)
 
--- src/cut.rt:18:16
 mul-word : tie.Need-mul-word
 mul-word c = let w : c .word-number .result < 8 = rw (c .word-number .ensures) (c .before .before .before .pre .3 .each _ (omega (arith, c .before .before .before .pre .3 .few, c .before .before .before .pre .5))) in search (needs, eight (c .before .before .before .pre .0), w)
 
--- src/cut.rt:18:16
 element-copy-out-word : tie.Need-element-copy-out-word
 element-copy-out-word c = let w : c .word-number .result < 8 = rw (c .word-number .ensures) (c .before .before .before .pre .3 .each _ (omega (arith, c .before .before .before .pre .3 .few, c .before .before .before .pre .5))) in omega (arith, eight (c .before .before .before .pre .0))
 
--- src/cut.rt:19:34
 mul-kept : tie.Need-mul-kept
 mul-kept c = let w : c .before .word-number .result < 8 = rw (c .before .word-number .ensures) (c .before .before .before .before .pre .3 .each _ (omega (arith, c .before .before .before .before .pre .3 .few, c .before .before .before .before .pre .5))) in search (needs, w)
 
--- src/cut.rt:19:9
 kept-requires : tie.Need-kept-requires
 kept-requires c κs = let w : c .before .word-number .result < 8 = rw (c .before .word-number .ensures) (c .before .before .before .before .pre .3 .each _ (omega (arith, c .before .before .before .before .pre .3 .few, c .before .before .before .before .pre .5))) in
     (omega arith, c .before .before .before .before .pre .1, word-readable (c .before .before .before .before .pre .0) _ (c .before .before .before .before .pre .2) _ w (c .before .before .before .before .pre .4 .bits _))
 
--- src/cut.rt:21:9
 returns : tie.Need-returns
-returns c = (word-same (c .before .before .before .before .before .before .pre .0) _ _ _ _ _ _ (c .before .before .before .before .before .before .pre .3) (c .before .before .before .before .before .before .pre .4) (c .before .before .before .before .before .before .pre .5) _ _ _ (c .before .before .before .word-number .ensures) refl (c .before .kept .ensures) (c .if1 .taken), λ e. refl)
+returns c = (word-uncut (c .before .before .before .before .before .before .pre .0) _ _ _ _ _ _ (c .before .before .before .before .before .before .pre .3) (c .before .before .before .before .before .before .pre .4) (c .before .before .before .before .before .before .pre .5) _ _ _ (c .before .before .before .word-number .ensures) refl (c .before .kept .ensures) (c .if1 .taken), λ e. refl)
 
--- src/cut.rt:23:5
 mul-live : tie.Need-mul-live
 mul-live c = let w : c .before .before .before .word-number .result < 8 = rw (c .before .before .before .word-number .ensures) (c .before .before .before .before .before .before .pre .3 .each _ (omega (arith, c .before .before .before .before .before .before .pre .3 .few, c .before .before .before .before .before .before .pre .5))) in search (needs, eight (c .before .before .before .before .before .before .pre .0), w)
 
--- src/cut.rt:23:5
 element-write-live : tie.Need-element-write-live
 element-write-live c = let w : c .before .before .before .word-number .result < 8 = rw (c .before .before .before .word-number .ensures) (c .before .before .before .before .before .before .pre .3 .each _ (omega (arith, c .before .before .before .before .before .before .pre .3 .few, c .before .before .before .before .before .before .pre .5))) in omega (arith, eight (c .before .before .before .before .before .before .pre .0))
 
--- src/cut.rt:25:9
 drop-word-requires : tie.Need-drop-word-requires
 drop-word-requires c κs = (eight (c .before .before .before .before .before .before .before .before .before .pre .0), c .before .before .before .before .before .before .before .before .before .pre .5, c .before .before .before .before .before .before .before .before .before .pre .3 .few)
 
--- src/cut.rt:26:9
 returns-2 : tie.Need-returns-2
 returns-2 c = (rw (c .drop-word .ensures .0, c .drop-word .ensures .1) (word-zero (c .before .before .before .before .before .before .before .before .before .before .pre .0) _ _ _ _ _ _ (c .before .before .before .before .before .before .before .before .before .before .pre .3) (c .before .before .before .before .before .before .before .before .before .before .pre .4) (c .before .before .before .before .before .before .before .before .before .before .pre .5) _ _ _ (c .before .before .before .before .before .before .before .word-number .ensures) refl (c .before .before .before .before .before .kept .ensures) (c .before .before .before .before .before .kept .ok) (c .before .before .before .if2 .taken)), λ e. absurd (false≢true (sym e)))
 
--- src/cut.rt:12:1
 returns-3 : tie.Need-returns-3
 returns-3 c = (word-less (c .before .before .before .before .before .before .before .pre .0) _ _ _ _ _ _ (c .before .before .before .before .before .before .before .pre .3) (c .before .before .before .before .before .before .before .pre .4) (c .before .before .before .before .before .before .before .pre .5) _ _ _ (c .before .before .before .before .word-number .ensures) refl (c .before .before .kept .ensures) (c .before .before .kept .ok) (search needs), λ e. absurd (false≢true (sym e)))
 

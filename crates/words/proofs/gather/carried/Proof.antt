@@ -8,12 +8,6 @@ use Rattle.words.proofs.Gathers.{Supporting, supporting-all, supporting
 use Rattle.words.proofs.Places.{eight}
 use Rattle.words.proofs.gather.carried.Statement.{statement}
 use Rattle.words.proofs.gather.carried.Tie as tie
-use Rattle.words.proofs.gather.carried.Reads as reads
-use Rattle.words.proofs.gather.carried.Lts as lts
-use Rattle.words.proofs.cells.gathered.Reads as gathered-reads
-use Rattle.words.proofs.gather.covered.Reads as covered-reads
-use Rattle.words.proofs.index.nonzero_words.Reads as nonzero-words-reads
-use Rattle.words.proofs.index.word_number.Reads as word-number-reads
 
 abbrev Inv-loop : tie.InvT-loop
 Inv-loop book first s x live index limit n seen₀ p₀ seen p = Supporting book s p live index (fourOf (seen .a) (seen .b) (seen .c) (seen .d)) × (p ≤ n)
@@ -21,63 +15,48 @@ Inv-loop book first s x live index limit n seen₀ p₀ seen p = Supporting book
 abbrev μ-loop : tie.MeasureT-loop
 μ-loop book first s x live index limit n seen₀ p₀ seen p = n - p
 
--- src/gather.rt:22:9
 nonzero-words-requires : tie.Need-nonzero-words-requires Inv-loop μ-loop
 nonzero-words-requires c κs = eight (c .before .pre .0)
 
--- src/gather.rt:25:5
 loop-holds : tie.Need-loop-holds Inv-loop μ-loop
 loop-holds c = (supporting-start _ _ _ _, omega arith)
 
--- src/gather.rt:26:13
 word-number-requires : tie.Need-word-number-requires Inv-loop μ-loop
 word-number-requires c κs = (eight (c .before .before .before .before .pre .0), omega (arith, c .before .before .before .before .pre .2 .few, c .before .before .nonzero-words .ensures .0, c .loop-test .taken))
 
--- src/gather.rt:27:38
 mul-gathered : tie.Need-mul-gathered Inv-loop μ-loop
 mul-gathered c = let w : c .word-number .result < 8 = rw (c .word-number .ensures) (c .before .before .before .before .before .pre .2 .each _ (omega (arith, c .before .before .before .before .before .pre .2 .few, c .before .before .before .nonzero-words .ensures .0, c .before .loop-test .taken))) in search (needs, w)
 
--- src/gather.rt:27:51
 mul-gathered-2 : tie.Need-mul-gathered-2 Inv-loop μ-loop
 mul-gathered-2 c = search (needs, eight (c .before .before .before .before .before .pre .0))
 
--- src/gather.rt:27:51
 add-gathered : tie.Need-add-gathered Inv-loop μ-loop
 add-gathered c = let w : c .word-number .result < 8 = rw (c .word-number .ensures) (c .before .before .before .before .before .pre .2 .each _ (omega (arith, c .before .before .before .before .before .pre .2 .few, c .before .before .before .nonzero-words .ensures .0, c .before .loop-test .taken))) in search (needs, eight (c .before .before .before .before .before .pre .0), w)
 
--- src/gather.rt:27:46
 mul-gathered-3 : tie.Need-mul-gathered-3 Inv-loop μ-loop
 mul-gathered-3 c = let w : c .word-number .result < 8 = rw (c .word-number .ensures) (c .before .before .before .before .before .pre .2 .each _ (omega (arith, c .before .before .before .before .before .pre .2 .few, c .before .before .before .nonzero-words .ensures .0, c .before .loop-test .taken))) in search (needs, eight (c .before .before .before .before .before .pre .0), w)
 
--- src/gather.rt:27:46
 element-copy-out-gathered : tie.Need-element-copy-out-gathered Inv-loop μ-loop
 element-copy-out-gathered c = let w : c .word-number .result < 8 = rw (c .word-number .ensures) (c .before .before .before .before .before .pre .2 .each _ (omega (arith, c .before .before .before .before .before .pre .2 .few, c .before .before .before .nonzero-words .ensures .0, c .before .loop-test .taken))) in omega (arith, eight (c .before .before .before .before .before .pre .0))
 
--- src/gather.rt:27:9
 gathered-requires : tie.Need-gathered-requires Inv-loop μ-loop
 gathered-requires c κs = let w : c .before .word-number .result < 8 = rw (c .before .word-number .ensures) (c .before .before .before .before .before .before .pre .2 .each _ (omega (arith, c .before .before .before .before .before .before .pre .2 .few, c .before .before .before .before .nonzero-words .ensures .0, c .before .before .loop-test .taken))) in (omega arith, word-readable (c .before .before .before .before .before .before .pre .0) _ (c .before .before .before .before .before .before .pre .1) _ w (c .before .before .before .before .before .before .pre .3 .bits _))
 
--- src/gather.rt:28:12
 covered-requires : tie.Need-covered-requires Inv-loop μ-loop
 covered-requires c κs = search needs
 
--- src/gather.rt:29:13
 returns : tie.Need-returns Inv-loop μ-loop
 returns c = supporting-covered (c .before .before .before .before .before .before .before .before .before .pre .0) (c .before .before .before .before .before .before .before .before .before .pre .2) (c .before .before .before .before .before .before .before .before .before .pre .3) (supporting-more (c .before .before .before .before .before .before .before .before .before .pre .0) (c .before .before .before .before .before .before .before .before .before .pre .2) (c .before .before .before .before .before .before .before .before .before .pre .3) (omega (arith, c .before .before .before .before .before .before .before .nonzero-words .ensures .0, c .before .before .before .before .before .loop-test .taken)) (c .before .before .before .before .word-number .ensures) refl (c .before .before .before .before .before .before .loop .inv .0) (c .before .before .gathered .ensures)) (c .before .covered .ensures (c .if1 .taken))
 
--- src/gather.rt:31:9
 add-p : tie.Need-add-p Inv-loop μ-loop
 add-p c = search needs
 
--- src/gather.rt:25:5
 loop-less : tie.Need-loop-less Inv-loop μ-loop
 loop-less c = search needs
 
--- src/gather.rt:25:5
 loop-again : tie.Need-loop-again Inv-loop μ-loop
 loop-again c = (supporting-more (c .before .before .before .before .before .before .before .before .before .pre .0) (c .before .before .before .before .before .before .before .before .before .pre .2) (c .before .before .before .before .before .before .before .before .before .pre .3) (omega (arith, c .before .before .before .before .before .before .before .nonzero-words .ensures .0, c .before .before .before .before .before .loop-test .taken)) (c .before .before .before .before .word-number .ensures) refl (c .before .before .before .before .before .before .loop .inv .0) (c .before .before .gathered .ensures), omega (arith, c .before .before .before .before .before .loop-test .taken))
 
--- src/gather.rt:18:1
 returns-2 : tie.Need-returns-2 Inv-loop μ-loop
 returns-2 c = supporting-all (c .before .before .before .before .pre .0) (c .before .before .before .before .pre .2) (c .before .before .before .before .pre .3) (omega (arith, c .before .before .nonzero-words .ensures .0, c .loop-test .left)) (c .before .loop .inv .0)
 

@@ -2,10 +2,7 @@ use native.Mathlib.Omega.{arith}
 use Rattle.words.proofs.Gathers.{covered-four}
 use Rattle.words.proofs.gather.covered.Statement.{statement}
 use Rattle.words.proofs.gather.covered.Tie as tie
-use Rattle.words.proofs.gather.covered.Reads as reads
-use Rattle.words.proofs.gather.covered.Lts as lts
 
--- src/gather.rt:11:1
 returns : tie.Need-returns
 returns c = covered-four _ _ _ _ _ _ _ _ (omega arith, omega arith, omega arith, omega arith) (omega arith, omega arith, omega arith, omega arith)
 

@@ -8,33 +8,23 @@ use Rattle.words.specs.Sheets.{domainAt}
 use Rattle.words.proofs.Places.{column-below, eight, head-there}
 use Rattle.words.proofs.strike.domain.Statement.{statement}
 use Rattle.words.proofs.strike.domain.Tie as tie
-use Rattle.words.proofs.strike.domain.Reads as reads
-use Rattle.words.proofs.strike.domain.Lts as lts
-use Rattle.book.proofs.head.column.Reads as column-reads
-use Rattle.book.proofs.head.width.Reads as width-reads
 
--- src/strike.rt:18:12
 width-requires : tie.Need-width-requires
 width-requires c κs = (head-there (c .before .pre .0), eight (c .before .pre .0))
 
--- src/strike.rt:19:20
 column-requires : tie.Need-column-requires
 column-requires c κs = (head-there (c .before .before .before .pre .0), eight (c .before .before .before .pre .0), c .before .before .before .pre .1)
 
--- src/strike.rt:19:16
 mul-result : tie.Need-mul-result
 mul-result c = search needs
 
--- src/strike.rt:19:16
 element-copy-out-result : tie.Need-element-copy-out-result
 element-copy-out-result c = let l : c .before .before .before .before .args .j < widthOf (c .before .before .before .before .args .book .now) (c .before .before .before .before .args .s) = omega (arith, c .before .if1 .taken, c .before .before .width .ensures .0) in omega (arith, c .column .ensures .0, column-below (c .before .before .before .before .pre .0) _ l)
 
--- src/strike.rt:19:9
 returns : tie.Need-returns
 unfolding domainAt
 returns c = let l : c .before .before .before .before .before .args .j < widthOf (c .before .before .before .before .before .args .book .now) (c .before .before .before .before .before .args .s) = omega (arith, c .before .before .if1 .taken, c .before .before .before .width .ensures .0) in rw (lt-ltb _ _ l, c .before .column .ensures .0) refl
 
--- src/strike.rt:14:1
 returns-2 : tie.Need-returns-2
 unfolding domainAt
 returns-2 c = let l : widthOf (c .before .before .before .args .book .now) (c .before .before .before .args .s) ≤ c .before .before .before .args .j = omega (arith, c .if1 .left, c .before .width .ensures .0) in rw (le-ltb _ _ l) refl

@@ -6,32 +6,22 @@ use Rattle.words.proofs.Places.{eight}
 use Rattle.words.proofs.Revisions.{cut-known, revised-none, revised-same, revised-struck}
 use Rattle.words.proofs.strike.revise.Statement.{statement}
 use Rattle.words.proofs.strike.revise.Tie as tie
-use Rattle.words.proofs.strike.revise.Reads as reads
-use Rattle.words.proofs.strike.revise.Lts as lts
-use Rattle.words.proofs.cut.cut_places.Reads as cut-places-reads
-use Rattle.words.proofs.strike.strike.Reads as strike-reads
 
--- src/strike.rt:66:8
 cut-places-requires : tie.Need-cut-places-requires
 cut-places-requires c κs = (c .before .before .before .before .before .pre .0, c .before .before .before .before .before .pre .1 .inside, c .before .before .before .before .before .pre .1 .indexed, c .before .before .before .before .before .pre .2)
 
--- src/strike.rt:67:12
 element-copy-out-if2 : tie.Need-element-copy-out-if2
 element-copy-out-if2 c = eight (c .before .before .before .before .before .before .before .pre .0)
 
--- src/strike.rt:68:13
 returns : tie.Need-returns
 returns c = revised-none (c .before .before .before .before .before .before .before .before .before .pre .0) (c .before .before .before .before .before .before .before .before .before .pre .3) (cut-known (c .before .before .before .before .before .before .before .before .before .pre .0) _ _ (c .before .before .before .before .before .before .before .before .before .pre .1) (c .before .before .before .cut-places .ensures .0)) (c .before .before .before .cut-places .ensures .0 .only) (c .before .before .before .cut-places .ensures .0 .sized) (c .if2 .taken)
 
--- src/strike.rt:70:9
 strike-requires : tie.Need-strike-requires
 strike-requires c κs = let h = cut-known (c .before .before .before .before .before .before .before .before .before .before .before .before .before .pre .0) _ _ (c .before .before .before .before .before .before .before .before .before .before .before .before .before .pre .1) (c .before .before .before .before .before .before .before .cut-places .ensures .0) in (c .before .before .before .before .before .before .before .before .before .before .before .before .before .pre .0, h .inside, h .indexed, c .before .before .before .before .before .before .before .cut-places .ensures .0 .sized, c .before .before .before .before .before .before .before .before .before .before .before .before .before .pre .3)
 
--- src/strike.rt:70:9
 returns-2 : tie.Need-returns-2
 returns-2 c = revised-struck (c .before .before .before .before .before .before .before .before .before .before .before .before .before .before .pre .0) (c .before .before .before .before .before .before .before .before .before .before .before .before .before .before .pre .3) (cut-known (c .before .before .before .before .before .before .before .before .before .before .before .before .before .before .pre .0) _ _ (c .before .before .before .before .before .before .before .before .before .before .before .before .before .before .pre .1) (c .before .before .before .before .before .before .before .before .cut-places .ensures .0)) (c .before .before .before .before .before .before .before .before .cut-places .ensures .0 .only) (c .before .before .before .before .before .before .before .before .cut-places .ensures .0 .sized) (c .strike .ensures)
 
--- src/strike.rt:62:1
 returns-3 : tie.Need-returns-3
 returns-3 c = let e = c .before .cut-places .ensures .1 (c .if1 .left) in
     revised-same (c .before .before .before .before .before .before .before .pre .0) (c .before .before .before .before .before .before .before .pre .3) (cut-known (c .before .before .before .before .before .before .before .pre .0) _ _ (c .before .before .before .before .before .before .before .pre .1) (c .before .cut-places .ensures .0)) (c .before .cut-places .ensures .0 .only) (c .before .cut-places .ensures .0 .sized)

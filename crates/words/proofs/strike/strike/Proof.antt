@@ -8,49 +8,34 @@ use Rattle.words.proofs.Strikes.{struck-all-places, struck-more, struck
 use Rattle.words.proofs.Walks.{four-all}
 use Rattle.words.proofs.strike.strike.Statement.{statement}
 use Rattle.words.proofs.strike.strike.Tie as tie
-use Rattle.words.proofs.strike.strike.Reads as reads
-use Rattle.words.proofs.strike.strike.Lts as lts
-use Rattle.words.proofs.gather.carried.Reads as carried-reads
-use Rattle.words.proofs.strike.domain.Reads as domain-reads
-use Rattle.words.proofs.strike.struck.Reads as struck-reads
 
--- src/strike.rt:48:12
 domain-requires : tie.Need-domain-requires
 domain-requires c κs = search needs
 
--- src/strike.rt:49:12
 domain-requires-2 : tie.Need-domain-requires-2
 domain-requires-2 c κs = search needs
 
--- src/strike.rt:50:12
 domain-requires-3 : tie.Need-domain-requires-3
 domain-requires-3 c κs = search needs
 
--- src/strike.rt:51:12
 domain-requires-4 : tie.Need-domain-requires-4
 domain-requires-4 c κs = search needs
 
--- src/strike.rt:53:9
 carried-requires : tie.Need-carried-requires
 carried-requires c κs = search needs
 
--- src/strike.rt:54:9
 struck-requires : tie.Need-struck-requires
 struck-requires c κs = search needs
 
--- src/strike.rt:55:9
 struck-requires-2 : tie.Need-struck-requires-2
 struck-requires-2 c κs = search needs
 
--- src/strike.rt:56:9
 struck-requires-3 : tie.Need-struck-requires-3
 struck-requires-3 c κs = (c .before .before .before .before .before .before .before .before .before .before .before .before .before .before .before .pre .0, omega arith, c .before .struck2 .ensures .loses .store)
 
--- src/strike.rt:57:9
 struck-requires-4 : tie.Need-struck-requires-4
 struck-requires-4 c κs = (c .before .before .before .before .before .before .before .before .before .before .before .before .before .before .before .before .before .pre .0, omega arith, c .before .struck3 .ensures .loses .store)
 
--- src/strike.rt:43:1
 returns : tie.Need-returns
 returns c = struck-all-places (c .before .before .before .before .before .before .before .before .before .before .before .before .before .before .before .before .before .before .pre .0) (four-all (λ j. getD (fourOf (c .before .before .before .before .before .before .before .before .before .before .before .before .before .before .before .domain .result) (c .before .before .before .before .before .before .before .before .before .before .before .before .before .domain2 .result) (c .before .before .before .before .before .before .before .before .before .before .before .domain3 .result) (c .before .before .before .before .before .before .before .before .before .domain4 .result)) j 0 ≡ domainAt (c .before .before .before .before .before .before .before .before .before .before .before .before .before .before .before .before .before .before .args .book .now) (c .before .before .before .before .before .before .before .before .before .before .before .before .before .before .before .before .before .before .args .s) (c .before .before .before .before .before .before .before .before .before .before .before .before .before .before .before .before .before .before .args .dom .now) j) (c .before .before .before .before .before .before .before .before .before .before .before .before .before .before .before .domain .ensures) (c .before .before .before .before .before .before .before .before .before .before .before .before .before .domain2 .ensures) (c .before .before .before .before .before .before .before .before .before .before .before .domain3 .ensures) (c .before .before .before .before .before .before .before .before .before .domain4 .ensures)) (c .before .before .before .before .before .before .before .before .carried .ensures) (struck-more _ 3 (struck-more _ 2 (struck-more _ 1 (struck-one _ (c .before .before .before .before .before .before .struck .ensures)) (c .before .before .before .before .struck2 .ensures)) (c .before .before .struck3 .ensures)) (c .struck4 .ensures))
 

@@ -6,52 +6,37 @@ use Rattle.words.proofs.Places.{column-below, eight, head-there}
 use Rattle.words.proofs.Strikes.{struck-all, struck-past, struck-some}
 use Rattle.words.proofs.strike.struck.Statement.{statement}
 use Rattle.words.proofs.strike.struck.Tie as tie
-use Rattle.words.proofs.strike.struck.Reads as reads
-use Rattle.words.proofs.strike.struck.Lts as lts
-use Rattle.book.proofs.head.column.Reads as column-reads
-use Rattle.book.proofs.head.width.Reads as width-reads
 
--- src/strike.rt:29:12
 width-requires : tie.Need-width-requires
 width-requires c κs = (head-there (c .before .pre .0), eight (c .before .pre .0))
 
--- src/strike.rt:30:13
 column-requires : tie.Need-column-requires
 column-requires c κs = (head-there (c .before .before .before .pre .0), eight (c .before .before .before .pre .0), c .before .before .before .pre .1)
 
--- src/strike.rt:31:17
 mul-d : tie.Need-mul-d
 mul-d c = search needs
 
--- src/strike.rt:31:17
 element-copy-out-d : tie.Need-element-copy-out-d
 element-copy-out-d c = let l : c .before .before .before .before .args .j < widthOf (c .before .before .before .before .args .book .now) (c .before .before .before .before .args .s) = omega (arith, c .before .if1 .taken, c .before .before .width .ensures .0) in omega (arith, c .column .ensures .0, column-below (c .before .before .before .before .pre .0) _ l)
 
--- src/strike.rt:34:13
 mul-dom : tie.Need-mul-dom
 mul-dom c = search needs
 
--- src/strike.rt:34:13
 element-write-dom : tie.Need-element-write-dom
 element-write-dom c = let l : c .before .before .before .before .before .before .args .j < widthOf (c .before .before .before .before .before .before .args .book .now) (c .before .before .before .before .before .before .args .s) = omega (arith, c .before .before .before .if1 .taken, c .before .before .before .before .width .ensures .0) in omega (arith, c .before .before .column .ensures .0, column-below (c .before .before .before .before .before .before .pre .0) _ l)
 
--- src/strike.rt:35:28
 cast-result : tie.Need-cast-result
 cast-result c = search needs
 
--- src/strike.rt:35:20
 shl-result : tie.Need-shl-result
 shl-result c = let l : c .before .before .before .before .before .before .args .j < widthOf (c .before .before .before .before .before .before .args .book .now) (c .before .before .before .before .before .before .args .s) = omega (arith, c .before .before .before .if1 .taken, c .before .before .before .before .width .ensures .0) in omega (arith, c .before .before .column .ensures .0, column-below (c .before .before .before .before .before .before .pre .0) _ l)
 
--- src/strike.rt:35:13
 returns : tie.Need-returns
 returns c = struck-some _ _ (c .before .before .before .before .before .before .pre .0) (c .before .before .before .before .before .before .pre .2) (c .before .before .column .ensures .0) (omega (arith, c .before .before .before .if1 .taken, c .before .before .before .before .width .ensures .0)) (search needs)
 
--- src/strike.rt:25:1
 returns-2 : tie.Need-returns-2
 returns-2 c = struck-all _ _ (c .before .before .before .before .before .before .pre .0) (c .before .before .before .before .before .before .pre .2) (c .before .before .column .ensures .0) (search needs)
 
--- src/strike.rt:25:1
 returns-3 : tie.Need-returns-3
 returns-3 c = struck-past _ _ (c .before .before .before .pre .0) (c .before .before .before .pre .2) (omega (arith, c .if1 .left, c .before .width .ensures .0))
 

@@ -1,0 +1,2 @@
+pub mod Worklists
+pub mod Turns

@@ -1,0 +1,239 @@
+-- Laws of the worklist. Assumes nothing.
+-- ---- the head of an accepted book
+use mathlib.Core.Path.{_∙_, _≡_, ap, refl, sym}
+use mathlib.Core.Bool.{Bool, _&&_, _||_, cond, false, false≢true, not, or-false, true}
+use mathlib.Core.Logic.{_⊎_, inl, inr}
+use mathlib.Core.List.{List}
+use Prim.Native.Nat.{_%_, _*_, _+_, _-_, _<_, _^_, _≤_, ℕ}
+use native.Mathlib.Nat.{lt-of-le-of-lt}
+use native.Mathlib.Omega.{arith}
+use lib.Arith.{lt-of-le-ne}
+use lib.Bits.{and-le-l, and-zero-r, bitAnd, bitOr, or-lt, or-zero-r}
+use lib.Dec.{eqb, ltb}
+use lib.ListN.{List·getD-eq-default, getD, getD-replicate, length, length-replicate, length-set, replicate, set}
+use lib.Pow.{pow-lt}
+use lib.Seq.{getD-set-other, getD-set-same}
+use borrow.Author.Tests.{eqb-false, eqb-true, le-ltb, lt-ltb}
+use Rattle.model.specs.Masks.{bit}
+use Rattle.model.proofs.Masks.{bit-and, bit-of-zero, bit-or, bit-pow, bit-pow-only, bit-pow-other, mask-ext}
+use Rattle.model.proofs.Tests.{and-false, and-true, below, either, or-e, or-l, or-r}
+use Rattle.book.specs.Head.{columnOf, sheetsOf, widthOf}
+use Rattle.book.specs.Rows.{blocksNeeded, blocksOf}
+use Rattle.book.specs.Verdicts.{Accepted}
+use Rattle.book.proofs.Decoded.{accepted-right}
+use Rattle.book.proofs.Faults.{firstBlock-later, firstBlock-more, firstBlock-zero}
+use Rattle.book.proofs.Results.{right-length}
+use Rattle.book.proofs.Right.{sheets-most}
+use Rattle.words.specs.Sheets.{firstByte}
+use Rattle.words.proofs.Gathers.{complement}
+use Rattle.words.proofs.Walks.{shifted-one}
+use Rattle.engine.specs.Layouts.{ColumnsIn, LayoutOf}
+use Rattle.engine.specs.Worklists.{Added, WaitingFor, Woken, touches, waitsBit}
+
+module _ (b : List ℕ) (acc : Accepted b) where
+  pub head-length : 512 ≤ length b
+  head-length = omega (arith, right-length b (accepted-right b acc .length-right))
+
+  pub eight-sheets : (s : ℕ) → s < sheetsOf b → s < 8
+  eight-sheets s l = omega (arith, sheets-most b (accepted-right b acc .head))
+
+  -- the rows of a sheet end within the file
+  pub rows-end : (s : ℕ) → s < sheetsOf b → firstByte b s + 512 * blocksOf b s ≤ 16896
+  unfolding blocksNeeded
+  rows-end s l =
+      let h = accepted-right b acc in
+      omega (arith, right-length b (h .length-right), h .blocks, firstBlock-later b s (sheetsOf b) l)
+
+  pub next-byte : (s : ℕ) → firstByte b (s + 1) ≡ firstByte b s + 512 * blocksOf b s
+  next-byte s = omega (arith, firstBlock-more b s)
+
+  pub first-byte : firstByte b 0 ≡ 512
+  first-byte = omega (arith, firstBlock-zero b)
+
+-- ---- the columns of a sheet
+
+pub record ColumnsTo (b : List ℕ) (s n m : ℕ) : Type 0 where
+  pub all : (j : ℕ) → j < n → bit (columnOf b s j) m ≡ true
+  pub only : (c : ℕ) → bit c m ≡ true → (j : ℕ) × (j < n) × (columnOf b s j ≡ c)
+
+pub columns-none : (b : List ℕ) (s : ℕ) → ColumnsTo b s 0 0
+columns-none b s = record { all = λ j l. absurd (omega arith); only = λ c e. absurd (false≢true (sym (bit-of-zero c) ∙ e)) }
+
+pub columns-more : {b : List ℕ} {s n m c : ℕ} → ColumnsTo b s n m → c ≡ columnOf b s n → c < 32 → ColumnsTo b s (n + 1) (bitOr m ((1 * 2 ^ c) % 2 ^ 32))
+columns-more {b} {s} {n} {m} {c} h e l =
+    record {
+      all = λ j k. into (columnOf b s j) (here j (below j n) k);
+      only = λ k f. from k (or-e (bit k m) _ (sym (bit-or k m _) ∙ f));
+    }
+  where
+    one : (1 * 2 ^ c) % 2 ^ 32 ≡ 2 ^ c
+    one = shifted-one 32 c l
+
+    into : (k : ℕ) → (bit k m || bit k ((1 * 2 ^ c) % 2 ^ 32)) ≡ true → bit k (bitOr m ((1 * 2 ^ c) % 2 ^ 32)) ≡ true
+    into k f = bit-or k m _ ∙ f
+
+    here : (j : ℕ) → (j < n) ⊎ (n ≤ j) → j < n + 1 → (bit (columnOf b s j) m || bit (columnOf b s j) ((1 * 2 ^ c) % 2 ^ 32)) ≡ true
+    here j (inl p) k = or-l (bit (columnOf b s j) m) _ (h .all j p)
+    here j (inr p) k =
+        let z : j ≡ n = omega arith in or-r (bit (columnOf b s j) m) _ (rw (z, ← e, one) (bit-pow c))
+
+    from : (k : ℕ) → (bit k m ≡ true) ⊎ (bit k ((1 * 2 ^ c) % 2 ^ 32) ≡ true) → (j : ℕ) × (j < n + 1) × (columnOf b s j ≡ k)
+    from k (inl f) = let r = h .only k f in (r .0, omega (arith, r .1), r .2)
+    from k (inr f) = (n, omega arith, sym e ∙ sym (bit-pow-only c k (rw one at f)))
+
+pub columns-end : {b : List ℕ} {s n m : ℕ} → n ≡ widthOf b s → ColumnsTo b s n m → ColumnsIn b s m
+columns-end e h =
+    record { all = λ j l. h .all j (omega arith); only = λ c f. let r = h .only c f in (r .0, omega (arith, r .1), r .2) }
+
+-- ---- the layout, sheet by sheet
+pub record LaidTo (b : List ℕ) (n : ℕ) (first mask : List ℕ) : Type 0 where
+  pub first-size : length first ≡ 8
+  pub mask-size : length mask ≡ 8
+  pub begins : (s : ℕ) → s < n → getD first s 0 ≡ firstByte b s
+  pub columns : (s : ℕ) → s < n → ColumnsIn b s (getD mask s 0)
+  pub past : (s : ℕ) → n ≤ s → getD mask s 0 ≡ 0
+
+pub zeros-at : (n c : ℕ) → _≡_ {A = ℕ} (getD (replicate n 0) c 0) 0
+zeros-at n c = go (below c n)
+  where
+    go : (c < n) ⊎ (n ≤ c) → _≡_ {A = ℕ} (getD (replicate n 0) c 0) 0
+    go (inl l) = getD-replicate n c 0 0 l
+    go (inr l) = List·getD-eq-default (replicate n 0) 0 (omega (arith, length-replicate {A = ℕ} n 0))
+
+pub laid-none : (b : List ℕ) {first mask : List ℕ} → first ≡ replicate 8 0 → mask ≡ replicate 8 0 → LaidTo b 0 first mask
+laid-none b {first} {mask} e f =
+    record {
+      first-size = ap (λ (l : List ℕ). length l) e ∙ length-replicate {A = ℕ} 8 0;
+      mask-size = ap (λ (l : List ℕ). length l) f ∙ length-replicate {A = ℕ} 8 0;
+      begins = λ s l. absurd (omega arith);
+      columns = λ s l. absurd (omega arith);
+      past = λ s l. ap (λ (l : List ℕ). getD l s 0) f ∙ zeros-at 8 s;
+    }
+
+pub laid-more : {b : List ℕ} {n at m : ℕ} {first mask : List ℕ} → LaidTo b n first mask → n < 8 → at ≡ firstByte b n → ColumnsIn b n m
+    → LaidTo b (n + 1) (set first n at) (set mask n m)
+laid-more {b} {n} {at} {m} {first} {mask} h l e k =
+    record {
+      first-size = length-set first n at ∙ h .first-size;
+      mask-size = length-set mask n m ∙ h .mask-size;
+      begins = λ s q. begins s (below s n) q;
+      columns = λ s q. columns s (below s n) q;
+      past = λ s q. getD-set-other mask n s m 0 (λ z. omega arith) ∙ h .past s (omega arith);
+    }
+  where
+    begins : (s : ℕ) → (s < n) ⊎ (n ≤ s) → s < n + 1 → getD (set first n at) s 0 ≡ firstByte b s
+    begins s (inl p) q = getD-set-other first n s at 0 (λ z. omega arith) ∙ h .begins s p
+    begins s (inr p) q =
+        let z : s ≡ n = omega arith in rw z (getD-set-same first n at 0 (omega (arith, h .first-size)) ∙ e)
+
+    columns : (s : ℕ) → (s < n) ⊎ (n ≤ s) → s < n + 1 → ColumnsIn b s (getD (set mask n m) s 0)
+    columns s (inl p) q = rw (getD-set-other mask n s m 0 (λ z. omega arith)) (h .columns s p)
+    columns s (inr p) q = let z : s ≡ n = omega arith in rw (z, getD-set-same mask n m 0 (omega (arith, h .mask-size))) k
+
+pub laid-end : {b : List ℕ} {n : ℕ} {first mask : List ℕ} → n ≡ sheetsOf b → LaidTo b n first mask → LayoutOf b first mask
+laid-end e h =
+    record { begins = λ s l. h .begins s (omega arith); columns = λ s l. h .columns s (omega arith); past = λ s l. h .past s (omega arith) }
+
+-- another number than n is below n + 1 exactly when it is below n
+ltb-next : (f n : ℕ) → (f ≡ n → ⊥) → ltb f n ≡ ltb f (n + 1)
+ltb-next f n m = go (below f n)
+  where
+    go : (f < n) ⊎ (n ≤ f) → ltb f n ≡ ltb f (n + 1)
+    go (inl x) = lt-ltb f n x ∙ sym (lt-ltb f (n + 1) (omega arith))
+    go (inr x) =
+        let y : n + 1 ≤ f = let z : n < f = lt-of-le-ne x (λ q. m (sym q)) in omega arith in
+        le-ltb f n x ∙ sym (le-ltb f (n + 1) y)
+
+-- ---- which sheets wait
+pub waiting-none : (M : List ℕ) (lost : ℕ) → WaitingFor M lost 0 0
+waiting-none M lost = record { at = λ f. bit-of-zero f ∙ sym (none f); small = omega arith }
+  where
+    none : (f : ℕ) → (ltb f 0 && touches (getD M f 0) lost) ≡ false
+    none f = rw (le-ltb f 0 (omega arith))
+
+pub waiting-more : {M : List ℕ} {lost n r w : ℕ} → WaitingFor M lost n r → n < 8 → w ≡ waitsBit (getD M n 0) lost n → w < 256
+    → WaitingFor M lost (n + 1) (bitOr r w)
+unfolding waitsBit
+waiting-more {M} {lost} {n} {r} {w} h l e small = record { at = λ f. bit-or f r w ∙ go f (either (eqb f n)) (either (touches (getD M n 0) lost)); small = or-lt 8 r w (h .small) small }
+  where
+    bit-w : (f : ℕ) → (eqb f n ≡ true) ⊎ (eqb f n ≡ false) → (touches (getD M n 0) lost ≡ true) ⊎ (touches (getD M n 0) lost ≡ false)
+        → bit f w ≡ (eqb f n && touches (getD M n 0) lost)
+    bit-w f p (inr q) = rw (e, q, and-false (eqb f n)) (bit-of-zero f)
+    bit-w f (inl p) (inl q) = let z = eqb-true f n p in rw (e, q, p, z) (bit-pow n)
+    bit-w f (inr p) (inl q) = rw (e, q, p) (bit-pow-other n f (eqb-false f n p))
+
+    go : (f : ℕ) → (eqb f n ≡ true) ⊎ (eqb f n ≡ false) → (touches (getD M n 0) lost ≡ true) ⊎ (touches (getD M n 0) lost ≡ false)
+        → (bit f r || bit f w) ≡ (ltb f (n + 1) && touches (getD M f 0) lost)
+    go f (inl p) q =
+        let z = eqb-true f n p in
+        rw (h .at f, bit-w f (inl p) q, p, z, le-ltb n n (omega arith), lt-ltb n (n + 1) (omega arith))
+    go f (inr p) q = rw (h .at f, bit-w f (inr p) q, p, or-false (ltb f n && touches (getD M f 0) lost)) (ap (λ (t : Bool). t && touches (getD M f 0) lost) (ltb-next f n (eqb-false f n p)))
+
+-- ---- columns that are added
+pub added-none : {G : List ℕ} (lost : ℕ) → length G ≡ 8 → Added G lost 0 G
+added-none {G} lost e = record { size = e; at = λ f l. rw (le-ltb f 0 (omega arith)) refl }
+
+pub added-more : {G G′ : List ℕ} {lost n : ℕ} → Added G lost n G′ → n < 8 → Added G lost (n + 1) (set G′ n (bitOr (getD G′ n 0) lost))
+added-more {G} {G′} {lost} {n} h l =
+    record { size = length-set G′ n _ ∙ h .size; at = λ f k. go f k (either (eqb f n)) }
+  where
+    go : (f : ℕ) → f < 8 → (eqb f n ≡ true) ⊎ (eqb f n ≡ false)
+        → getD (set G′ n (bitOr (getD G′ n 0) lost)) f 0 ≡ cond (ltb f (n + 1)) (bitOr (getD G f 0) lost) (getD G f 0)
+    go f k (inl p) =
+        let z = eqb-true f n p in
+        let y : getD G′ n 0 ≡ getD G n 0 = rw (le-ltb n n (omega arith)) at (h .at n l) in
+        rw (z, getD-set-same G′ n (bitOr (getD G′ n 0) lost) 0 (omega (arith, h .size)), lt-ltb n (n + 1) (omega arith), y) refl
+    go f k (inr p) =
+        getD-set-other G′ n f (bitOr (getD G′ n 0) lost) 0 (eqb-false f n p)
+        ∙ h .at f k
+        ∙ ap (λ (t : Bool). cond t (bitOr (getD G f 0) lost) (getD G f 0)) (ltb-next f n (eqb-false f n p))
+
+-- ---- a sheet that struck columns
+module _ {M G : List ℕ} {s waiting : ℕ} (small : waiting < 256) (size : length G ≡ 8) (clear : getD G s 0 ≡ 0) where
+  pub woken-none : Woken M s 0 G waiting G waiting
+  unfolding touches
+  woken-none = record {
+    small = small;
+    size = size;
+    waits = λ f l. sym (rw (and-zero-r (getD M f 0), and-false (not (eqb f s)), or-false (bit f waiting)) refl);
+    changed = λ f l. go f (either (eqb f s));
+  }
+    where
+      go : (f : ℕ) → (eqb f s ≡ true) ⊎ (eqb f s ≡ false) → getD G f 0 ≡ cond (eqb f s) 0 (bitOr (getD G f 0) 0)
+      go f (inl e) = let z = eqb-true f s e in rw (e, z) clear
+      go f (inr e) = rw (e, or-zero-r (getD G f 0)) refl
+
+  pub woken-some : {lost w one : ℕ} {G′ : List ℕ} → s < 8 → Added G lost 8 G′ → WaitingFor M lost 8 w → one ≡ (1 * 2 ^ s) % 2 ^ 32
+      → Woken M s lost G waiting (set G′ s 0) (bitOr waiting (bitAnd w (4294967295 - one)))
+  woken-some {lost} {w} {one} {G′} l a h e = record {
+    small = or-lt 8 waiting (bitAnd w (4294967295 - one)) small (lt-of-le-of-lt (and-le-l w (4294967295 - one)) (h .small));
+    size = length-set G′ s 0 ∙ a .size;
+    waits = λ f k. bit-or f waiting _ ∙ ap (λ (t : Bool). bit f waiting || t) (bit-and f w _ ∙ waits f k (either (eqb f s)));
+    changed = λ f k. changed f k (either (eqb f s));
+  }
+    where
+      is-one : one ≡ 2 ^ s
+      is-one = e ∙ shifted-one 32 s (omega arith)
+
+      not-s : (f : ℕ) → f < 8 → bit f (4294967295 - one) ≡ not (bit f (2 ^ s))
+      not-s f k = rw is-one (complement 32 (2 ^ s) f (pow-lt (let k : s < 32 = omega arith in k)) (omega arith))
+
+      waits : (f : ℕ) → f < 8 → (eqb f s ≡ true) ⊎ (eqb f s ≡ false)
+          → (bit f w && bit f (4294967295 - one)) ≡ (not (eqb f s) && touches (getD M f 0) lost)
+      waits f k (inl p) =
+          let z = eqb-true f s p in rw (not-s f k, p, z, bit-pow s) (and-false (bit s w))
+      waits f k (inr p) =
+          rw (not-s f k, p, bit-pow-other s f (eqb-false f s p), h .at f, lt-ltb f 8 k) (and-true (touches (getD M f 0) lost))
+
+      changed : (f : ℕ) → f < 8 → (eqb f s ≡ true) ⊎ (eqb f s ≡ false) → getD (set G′ s 0) f 0 ≡ cond (eqb f s) 0 (bitOr (getD G f 0) lost)
+      changed f k (inl p) = let z = eqb-true f s p in rw (p, z) (getD-set-same G′ s 0 0 (omega (arith, a .size)))
+      changed f k (inr p) = rw p (getD-set-other G′ s f 0 0 (eqb-false f s p) ∙ (rw (lt-ltb f 8 k) at (a .at f k)))
+
+-- nothing struck, nothing woken
+pub woken-same : {M G G′ : List ℕ} {s lost waiting waiting′ : ℕ} → Woken M s lost G waiting G′ waiting′ → waiting < 256 → lost ≡ 0 → waiting′ ≡ waiting
+unfolding touches
+woken-same {M} {G} {G′} {s} {lost} {waiting} {waiting′} h l e =
+    mask-ext 8 waiting′ waiting (h .small) l
+    (λ f k.
+    h .waits f k
+    ∙ (rw (e, and-zero-r (getD M f 0), and-false (not (eqb f s)), or-false (bit f waiting)) refl))

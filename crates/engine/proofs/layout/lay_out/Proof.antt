@@ -1,0 +1,78 @@
+use mathlib.Core.Path.{_≡_, sym}
+use Prim.Native.Nat.{_*_, _+_, _-_, _<_, _≤_}
+use native.Mathlib.Omega.{arith}
+use borrow.Author.Needs.{needs}
+use Rattle.book.specs.Head.{sheetsOf}
+use Rattle.words.specs.Sheets.{firstByte}
+use Rattle.engine.proofs.Worklists.{LaidTo, eight-sheets, first-byte, head-length, laid-end, laid-more, laid-none, next-byte, rows-end}
+use Rattle.engine.proofs.layout.lay_out.Statement.{statement}
+use Rattle.engine.proofs.layout.lay_out.Tie as tie
+
+abbrev Inv-loop : tie.InvT-loop
+Inv-loop book first₀ mask₀ n at₀ s₀ first mask at s = LaidTo book s first mask × (s ≤ n) × (at ≡ firstByte book s)
+
+abbrev μ-loop : tie.MeasureT-loop
+μ-loop book first₀ mask₀ n at₀ s₀ first mask at s = n - s
+
+sheets-requires : tie.Need-sheets-requires Inv-loop μ-loop
+sheets-requires c κs = head-length _ (c .before .pre .0)
+
+loop-holds : tie.Need-loop-holds Inv-loop μ-loop
+loop-holds c = (laid-none _ (c .before .before .pre .1) (c .before .before .pre .2), omega arith, sym (first-byte _ (c .before .before .pre .0)))
+
+mul-first : tie.Need-mul-first Inv-loop μ-loop
+mul-first c = search needs
+
+element-write-first : tie.Need-element-write-first Inv-loop μ-loop
+element-write-first c = let l : c .before .loop .s < sheetsOf (c .before .before .before .before .args .book .now) = omega (arith, c .before .before .sheets .ensures .0, c .loop-test .taken) in eight-sheets _ (c .before .before .before .before .pre .0) _ l
+
+columns-of-requires : tie.Need-columns-of-requires Inv-loop μ-loop
+columns-of-requires c κs = search needs
+
+mul-mask : tie.Need-mul-mask Inv-loop μ-loop
+mul-mask c = search needs
+
+element-write-mask : tie.Need-element-write-mask Inv-loop μ-loop
+element-write-mask c = let l : c .before .before .loop .s < sheetsOf (c .before .before .before .before .before .args .book .now) = omega (arith, c .before .before .before .sheets .ensures .0, c .before .loop-test .taken) in eight-sheets _ (c .before .before .before .before .before .pre .0) _ l
+
+blocks-of-requires : tie.Need-blocks-of-requires Inv-loop μ-loop
+blocks-of-requires c κs = let l : c .before .before .loop .s < sheetsOf (c .before .before .before .before .before .args .book .now) = omega (arith, c .before .before .before .sheets .ensures .0, c .before .loop-test .taken) in (head-length _ (c .before .before .before .before .before .pre .0), eight-sheets _ (c .before .before .before .before .before .pre .0) _ l)
+
+mul-at : tie.Need-mul-at Inv-loop μ-loop
+mul-at c = search needs
+
+add-at : tie.Need-add-at Inv-loop μ-loop
+add-at c = let l : c .before .before .before .loop .s < sheetsOf (c .before .before .before .before .before .before .args .book .now) = omega (arith, c .before .before .before .before .sheets .ensures .0, c .before .before .loop-test .taken) in let k : c .before .before .before .loop .at + 512 * c .blocks-of .result ≤ 16896 = rw (c .before .before .before .loop .inv .2, c .blocks-of .ensures .0) (rows-end _ (c .before .before .before .before .before .before .pre .0) _ l) in search (needs, k)
+
+add-s : tie.Need-add-s Inv-loop μ-loop
+add-s c = search needs
+
+loop-less : tie.Need-loop-less Inv-loop μ-loop
+loop-less c = search needs
+
+loop-again : tie.Need-loop-again Inv-loop μ-loop
+loop-again c = let l : c .before .before .before .loop .s < sheetsOf (c .before .before .before .before .before .before .args .book .now) = omega (arith, c .before .before .before .before .sheets .ensures .0, c .before .before .loop-test .taken) in (laid-more (c .before .before .before .loop .inv .0) (eight-sheets _ (c .before .before .before .before .before .before .pre .0) _ l) (c .before .before .before .loop .inv .2) (c .before .columns-of .ensures), omega (arith, c .before .before .loop-test .taken), rw (c .before .before .before .loop .inv .2, c .blocks-of .ensures .0) (sym (next-byte _ (c .before .before .before .before .before .before .pre .0) _)))
+
+returns : tie.Need-returns Inv-loop μ-loop
+returns c = laid-end (omega (arith, c .before .before .sheets .ensures .0, c .loop-test .left, c .before .loop .inv .1)) (c .before .loop .inv .0)
+
+pub lay-out-spec : {M : Type 1} → statement M
+lay-out-spec =
+    tie.close
+    (tie.spec
+    Inv-loop
+    μ-loop
+    sheets-requires
+    loop-holds
+    mul-first
+    element-write-first
+    columns-of-requires
+    mul-mask
+    element-write-mask
+    blocks-of-requires
+    mul-at
+    add-at
+    add-s
+    loop-less
+    loop-again
+    returns)

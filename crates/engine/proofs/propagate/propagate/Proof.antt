@@ -1,0 +1,96 @@
+use mathlib.Core.Path.{_∙_, subst⁻¹}
+use mathlib.Core.Logic.{inl}
+use Prim.Native.Nat.{_*_, _+_, ℕ}
+use native.Mathlib.Omega.{arith}
+use lib.ListN.{length-set}
+use lib.Seq.{getD-set-same}
+use borrow.Author.Needs.{needs}
+use Rattle.model.specs.Masks.{Cleared}
+use Rattle.model.specs.Stores.{values}
+use Rattle.engine.proofs.Turns.{Going, at-laid, going-done, going-failed, going-less, going-on, going-start}
+use Rattle.engine.proofs.propagate.propagate.Statement.{statement}
+use Rattle.engine.proofs.propagate.propagate.Tie as tie
+
+abbrev Inv-loop : tie.InvT-loop
+Inv-loop book first mask waiting column opening dom₀ live₀ index₀ limit₀ changed₀ left₀ dom live index limit changed left =
+    Going book opening dom₀ dom live index limit changed left
+
+abbrev μ-loop : tie.MeasureT-loop
+μ-loop book first mask waiting column opening dom₀ live₀ index₀ limit₀ changed₀ left₀ dom live index limit changed left =
+    256 * values 16 dom + left
+
+loop-holds : tie.Need-loop-holds Inv-loop μ-loop
+loop-holds c = going-start _ (c .before .pre .0) (c .before .pre .2)
+
+first-waiting-requires : tie.Need-first-waiting-requires Inv-loop μ-loop
+first-waiting-requires c κs = search needs
+
+mul-seen : tie.Need-mul-seen Inv-loop μ-loop
+mul-seen c = search needs
+
+array-read-seen : tie.Need-array-read-seen Inv-loop μ-loop
+array-read-seen c = search needs
+
+mul-changed : tie.Need-mul-changed Inv-loop μ-loop
+mul-changed c = search needs
+
+array-write-changed : tie.Need-array-write-changed Inv-loop μ-loop
+array-write-changed c = search needs
+
+mul-revise : tie.Need-mul-revise Inv-loop μ-loop
+mul-revise c = search needs
+
+element-copy-out-revise : tie.Need-element-copy-out-revise Inv-loop μ-loop
+element-copy-out-revise c = search needs
+
+revise-requires : tie.Need-revise-requires Inv-loop μ-loop
+revise-requires c κs = let l = c .before .before .before .before .before .before .before .loop .inv .used _ (c .before .before .before .before .before .first-waiting .ensures .2) in
+    (at-laid _ (c .before .before .before .before .before .before .before .before .before .pre .0) (c .before .before .before .before .before .before .before .before .before .pre .1) _ l, c .before .before .before .before .before .before .before .loop .inv .sheet _ l, c .before .before .before .before .before .before .before .loop .inv .sized, c .before .before .before .before .before .before .before .loop .inv .store, record { at = λ e. c .before .before .before .before .before .before .before .loop .inv .carried _ l (inl e) })
+
+element-copy-out-if1 : tie.Need-element-copy-out-if1 Inv-loop μ-loop
+element-copy-out-if1 c = search needs
+
+returns : tie.Need-returns Inv-loop μ-loop
+returns c = going-failed _ (c .before .before .before .before .before .before .before .before .before .before .before .before .pre .0) (c .before .before .before .before .before .before .before .before .before .before .before .before .pre .1) (c .before .before .before .before .before .before .before .before .before .before .loop .inv) (c .before .before .before .before .before .before .before .before .first-waiting .ensures .2) (c .before .before .revise .ensures) (c .if1 .taken)
+
+others-waiting-requires : tie.Need-others-waiting-requires Inv-loop μ-loop
+others-waiting-requires c κs = search needs
+
+wake-requires : tie.Need-wake-requires Inv-loop μ-loop
+wake-requires c κs = (omega (arith, c .others-waiting .ensures .1, c .before .before .before .before .before .before .before .before .before .before .before .before .loop .inv .small), c .before .before .before .before .before .before .before .before .before .before .first-waiting .ensures .1, length-set (c .before .before .before .before .before .before .before .before .before .before .before .before .loop .changed) (c .before .before .before .before .before .before .before .before .before .before .first-waiting .result) 0 ∙ c .before .before .before .before .before .before .before .before .before .before .before .before .loop .inv .size, getD-set-same (c .before .before .before .before .before .before .before .before .before .before .before .before .loop .changed) (c .before .before .before .before .before .before .before .before .before .before .first-waiting .result) 0 0 (omega (arith, c .before .before .before .before .before .before .before .before .before .before .before .before .loop .inv .size, c .before .before .before .before .before .before .before .before .before .before .first-waiting .ensures .1)))
+
+loop-less : tie.Need-loop-less Inv-loop μ-loop
+loop-less c = going-less _ (c .before .before .before .before .before .before .before .before .before .before .before .before .before .before .before .pre .0) (c .before .before .before .before .before .before .before .before .before .before .before .before .before .before .before .pre .1) (c .before .before .before .before .before .before .before .before .before .before .before .before .before .loop .inv) (c .before .before .before .before .before .before .before .before .before .before .before .first-waiting .ensures .2) (c .before .before .before .before .before .revise .ensures)
+    (subst⁻¹ (λ (t : ℕ). Cleared (c .before .before .before .before .before .before .before .before .before .before .before .before .before .loop .left) (c .before .others-waiting .result) t) (c .before .before .before .before .before .before .before .before .before .before .before .first-waiting .ensures .0) (c .before .others-waiting .ensures .0))
+    (search needs) (omega (arith, c .before .others-waiting .ensures .1, c .before .before .before .before .before .before .before .before .before .before .before .before .before .loop .inv .small)) (c .wake .ensures) (c .before .others-waiting .ensures .1)
+
+loop-again : tie.Need-loop-again Inv-loop μ-loop
+loop-again c = going-on _ (c .before .before .before .before .before .before .before .before .before .before .before .before .before .before .before .pre .0) (c .before .before .before .before .before .before .before .before .before .before .before .before .before .before .before .pre .1) (c .before .before .before .before .before .before .before .before .before .before .before .before .before .loop .inv) (c .before .before .before .before .before .before .before .before .before .before .before .first-waiting .ensures .2) (c .before .before .before .before .before .revise .ensures)
+    (subst⁻¹ (λ (t : ℕ). Cleared (c .before .before .before .before .before .before .before .before .before .before .before .before .before .loop .left) (c .before .others-waiting .result) t) (c .before .before .before .before .before .before .before .before .before .before .before .first-waiting .ensures .0) (c .before .others-waiting .ensures .0))
+    (search needs) (omega (arith, c .before .others-waiting .ensures .1, c .before .before .before .before .before .before .before .before .before .before .before .before .before .loop .inv .small)) (c .wake .ensures)
+
+returns-2 : tie.Need-returns-2 Inv-loop μ-loop
+returns-2 c = going-done _ (c .before .before .before .pre .0) (c .before .before .before .pre .1) (c .before .loop .inv) (c .loop-test .left)
+
+pub propagate-spec : {M : Type 1} → statement M
+propagate-spec =
+    tie.close
+    (tie.spec
+    Inv-loop
+    μ-loop
+    loop-holds
+    first-waiting-requires
+    mul-seen
+    array-read-seen
+    mul-changed
+    array-write-changed
+    mul-revise
+    element-copy-out-revise
+    revise-requires
+    element-copy-out-if1
+    returns
+    others-waiting-requires
+    wake-requires
+    loop-less
+    loop-again
+    returns-2)

@@ -1,0 +1,57 @@
+use mathlib.Core.Path.{_≡_}
+use Prim.Native.Nat.{_-_, _≤_}
+use native.Mathlib.Omega.{arith}
+use borrow.Author.Needs.{needs}
+use Rattle.engine.specs.Worklists.{Added}
+use Rattle.engine.proofs.Worklists.{added-more, added-none}
+use Rattle.engine.proofs.worklist.add_lost.Statement.{statement}
+use Rattle.engine.proofs.worklist.add_lost.Tie as tie
+
+abbrev Inv-loop : tie.InvT-loop
+Inv-loop changed₀ lost f₀ changed f = Added changed₀ lost f changed × (f ≤ 8)
+
+abbrev μ-loop : tie.MeasureT-loop
+μ-loop changed₀ lost f₀ changed f = 8 - f
+
+loop-holds : tie.Need-loop-holds Inv-loop μ-loop
+loop-holds c = (added-none _ (c .pre), omega arith)
+
+mul-changed : tie.Need-mul-changed Inv-loop μ-loop
+mul-changed c = search needs
+
+element-copy-out-changed : tie.Need-element-copy-out-changed Inv-loop μ-loop
+element-copy-out-changed c = search needs
+
+mul-changed-2 : tie.Need-mul-changed-2 Inv-loop μ-loop
+mul-changed-2 c = search needs
+
+element-write-changed : tie.Need-element-write-changed Inv-loop μ-loop
+element-write-changed c = search needs
+
+add-f : tie.Need-add-f Inv-loop μ-loop
+add-f c = search needs
+
+loop-less : tie.Need-loop-less Inv-loop μ-loop
+loop-less c = search needs
+
+loop-again : tie.Need-loop-again Inv-loop μ-loop
+loop-again c = (added-more (c .before .before .loop .inv .0) (c .before .loop-test .taken), omega (arith, c .before .loop-test .taken))
+
+returns : tie.Need-returns Inv-loop μ-loop
+returns c = let e : c .before .loop .f ≡ 8 = omega (arith, c .loop-test .left, c .before .loop .inv .1) in rw e at (c .before .loop .inv .0)
+
+pub add-lost-spec : {M : Type 1} → statement M
+add-lost-spec =
+    tie.close
+    (tie.spec
+    Inv-loop
+    μ-loop
+    loop-holds
+    mul-changed
+    element-copy-out-changed
+    mul-changed-2
+    element-write-changed
+    add-f
+    loop-less
+    loop-again
+    returns)

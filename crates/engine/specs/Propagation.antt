@@ -1,0 +1,53 @@
+-- What propagation starts from, and what it comes to. D, W, X, N are the arrays of domains, words, index positions and limits.
+use mathlib.Core.Path.{_≡_}
+use mathlib.Core.Bool.{Bool, true, false}
+use mathlib.Core.List.{List}
+use Prim.Native.Nat.{ℕ, _≤_, _<_}
+use lib.ListN.{getD}
+use Rattle.model.specs.Tests.{tab}
+use Rattle.model.specs.Masks.{bit}
+use Rattle.model.specs.Stores.{has, IsStore, emptyStore}
+use Rattle.model.specs.Books.{closure, columnCount}
+use Rattle.model.specs.States.{Arrays, StateOf}
+use Rattle.book.specs.Head.{columnOf, columnsOf, sheetsOf, widthOf}
+use Rattle.book.specs.Decoding.{bookOf}
+use Rattle.words.specs.Sheets.{Sized, IndexOf, SheetKnown, AllCarried}
+
+-- the store in an array of sixteen domains: those of the book's columns
+abbrev pub storeIn : List ℕ → List ℕ → List ℕ
+storeIn b D = tab (columnsOf b) (λ c. getD D c 0)
+
+-- the closure of that store
+abbrev pub closureIn : List ℕ → List ℕ → List ℕ
+closureIn b D = closure (bookOf b) (storeIn b D)
+
+abbrev pub arrays : List ℕ → List ℕ → List ℕ → List ℕ → Arrays
+arrays D W X N = record { doms = D; words = W; index = X; limits = N }
+
+-- no column of the book is empty, and the columns past its last are; each sheet is known but for the columns in `column`. A sheet that does
+-- not wait has none of these, and outside the opening every value of every sheet is carried
+pub record Ready (b : List ℕ) (opening : Bool) (waiting column : ℕ) (D W X N : List ℕ) : Type 0 where
+  pub store : IsStore 16 D
+  pub sized : Sized W X N
+  pub filled : (c : ℕ) → c < columnsOf b → (v : ℕ) × (has D c v ≡ true)
+  pub past : (c v : ℕ) → has D c v ≡ true → c < columnsOf b
+  pub sheet : (s : ℕ) → s < sheetsOf b → SheetKnown b s column D W X N
+  pub carried : (s : ℕ) → s < sheetsOf b → opening ≡ false → AllCarried b s D W
+  pub quiet : (s : ℕ) → s < sheetsOf b → bit s waiting ≡ false
+      → (opening ≡ false) × ((j : ℕ) → j < widthOf b s → bit (columnOf b s j) column ≡ false)
+  pub used : (s : ℕ) → bit s waiting ≡ true → s < sheetsOf b
+  pub small : waiting < 256
+
+-- the arrays are the state of the closure of D, or the closure is empty
+pub record Propagated (b D D′ W′ X′ N′ : List ℕ) (r : Bool) : Type 0 where
+  pub store : IsStore 16 D′
+  pub sized : Sized W′ X′ N′
+  pub state : r ≡ true → StateOf (bookOf b) (closureIn b D) (arrays D′ W′ X′ N′)
+  pub failed : r ≡ false → closureIn b D ≡ emptyStore (columnCount (bookOf b))
+  pub indexed : (s : ℕ) → s < sheetsOf b → IndexOf s W′ X′ N′
+
+-- the arrays are the state of the closure of D
+pub record Settled (b D D′ W′ X′ N′ : List ℕ) : Type 0 where
+  pub store : IsStore 16 D′
+  pub sized : Sized W′ X′ N′
+  pub state : StateOf (bookOf b) (closureIn b D) (arrays D′ W′ X′ N′)

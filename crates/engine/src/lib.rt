@@ -1,0 +1,4 @@
+// The engine: propagation over the sheets that wait, the state, the session, and the orders.
+pub mod layout;
+pub mod propagate;
+pub mod worklist;

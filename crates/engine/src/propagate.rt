@@ -1,0 +1,85 @@
+// Propagation: the sheets that wait are looked at, and those that this touches, until none waits. What is left is the closure.
+use crate::worklist::*;
+ghost use mathlib.Core.Path.{_≡_};
+ghost use mathlib.Core.Bool.{true, false};
+ghost use Prim.Native.Nat.{_+_, _*_, _<_, _≤_};
+ghost use lib.ListN.{getD, replicate};
+ghost use Rattle.model.specs.Stores.{IsStore};
+ghost use Rattle.book.specs.Verdicts.{Accepted};
+ghost use Rattle.words.specs.Sheets.{Sized};
+ghost use Rattle.engine.specs.Layouts.{LayoutOf};
+ghost use Rattle.engine.specs.Propagation.{Ready, Propagated, Settled};
+
+// The sheets in `waiting` are looked at, of whose columns those in `column` lost values; at the opening none has been looked at.
+// Whether a store is left: a sheet without valid rows fails it.
+pub fn propagate(
+    book: &[u8],
+    first: &[usize; 8],
+    mask: &[u32; 8],
+    waiting: u32,
+    column: u32,
+    opening: bool,
+    dom: &mut [u32; 16],
+    live: &mut [u64; 64],
+    index: &mut [u8; 64],
+    limit: &mut [u8; 8],
+) -> bool
+    requires { ⌜ Accepted (now book) × LayoutOf (now book) (now first) (now mask) × Ready (now book) opening waiting column (now dom) (now live) (now index) (now limit) ⌝ }
+    ensures { λ r. ⌜ Propagated (now (book .entry)) (now (dom .entry)) (now (dom .exit)) (now (live .exit)) (now (index .exit)) (now (limit .exit)) r ⌝ }
+{
+    let mut changed = [column; 8];
+    let mut left = waiting;
+    while left != 0 {
+        let s = first_waiting(left);
+        let seen = changed[s];
+        changed[s] = 0;
+        let lost = words::strike::revise(book, first[s], s, seen, opening, dom, live, index, limit);
+        if limit[s] == 0 {
+            return false;
+        }
+        left = wake(mask, &mut changed, others_waiting(left), s, lost);
+    }
+    true
+}
+
+// Everything is emptied: no value, no row.
+fn empty(dom: &mut [u32; 16], live: &mut [u64; 64], limit: &mut [u8; 8])
+    ensures { λ r. ⌜ (now (dom .exit) ≡ replicate 16 0) × (now (live .exit) ≡ replicate 64 0) × (now (limit .exit) ≡ replicate 8 0) ⌝ }
+{
+    *dom = [0u32; 16];
+    *live = [0u64; 64];
+    *limit = [0u8; 8];
+}
+
+// The same; a failed store is emptied.
+pub fn settle(
+    book: &[u8],
+    first: &[usize; 8],
+    mask: &[u32; 8],
+    waiting: u32,
+    column: u32,
+    opening: bool,
+    dom: &mut [u32; 16],
+    live: &mut [u64; 64],
+    index: &mut [u8; 64],
+    limit: &mut [u8; 8],
+)
+    requires { ⌜ Accepted (now book) × LayoutOf (now book) (now first) (now mask) × Ready (now book) opening waiting column (now dom) (now live) (now index) (now limit) ⌝ }
+    ensures { λ r. ⌜ Settled (now (book .entry)) (now (dom .entry)) (now (dom .exit)) (now (live .exit)) (now (index .exit)) (now (limit .exit)) ⌝ }
+{
+    if propagate(
+        book,
+        first,
+        mask,
+        waiting,
+        column,
+        opening,
+        dom,
+        live,
+        index,
+        limit,
+    ) {
+        return;
+    }
+    empty(dom, live, limit);
+}

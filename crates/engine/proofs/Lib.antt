@@ -1,2 +1,4 @@
 pub mod Worklists
 pub mod Turns
+pub mod Fills
+pub mod Narrowings

@@ -6,7 +6,7 @@ use mathlib.Core.Logic.{_⊎_, inl, inr, ⊎-elim}
 use mathlib.Core.List.{List}
 use Prim.Native.Nat.{_%_, _*_, _+_, _/_, _<_, _^_, _≤_, ℕ}
 use native.Mathlib.Omega.{arith}
-use lib.Bits.{and-zero-l, bitAnd, bitOr}
+use lib.Bits.{bitOr}
 use lib.Dec.{eqb}
 use lib.ListN.{getD, getD-replicate, length, length-replicate, replicate, set}
 use lib.Seq.{getD-set-other}
@@ -18,10 +18,10 @@ use Rattle.model.specs.States.{Indexed, StateOf, ofSheet, sheetAt, validRow, va
 use Rattle.model.specs.Stores.{IsStore, Within, emptyStore, has, values}
 use Rattle.model.proofs.Books.{closed-or-empty, supported-mono}
 use Rattle.model.proofs.Closure.{between-rest, between-strike, closure-within}
-use Rattle.model.proofs.Masks.{bit-and, bit-below, bit-of-zero, bit-or, mask-ext}
+use Rattle.model.proofs.Masks.{bit-below, bit-of-zero, bit-or, mask-ext}
 use Rattle.model.proofs.Rows.{ValidSupport, rows-consistent, support-iff, word-same}
 use Rattle.model.proofs.Stores.{empty-has, empty-store, in-store, within-trans}
-use Rattle.model.proofs.Tests.{and-i, and-r, below, either, getD-tab, getD-tab-out, length-tab, or-e, or-false-l, or-false-r, same-test}
+use Rattle.model.proofs.Tests.{and-r, below, either, getD-tab, getD-tab-out, length-tab, or-e, or-false-l, or-false-r, same-test}
 use Rattle.book.specs.Decoding.{bookOf, sheetOf}
 use Rattle.book.specs.Head.{columnOf, columnsOf, sheetsOf, valuesOf, widthOf}
 use Rattle.book.specs.Verdicts.{Accepted}
@@ -32,7 +32,7 @@ use Rattle.words.proofs.Places.{column-value, columns-size, formed, row-value, 
 use Rattle.engine.specs.Layouts.{LayoutOf}
 use Rattle.engine.specs.Propagation.{Propagated, Ready, Settled, arrays, closureIn, storeIn}
 use Rattle.engine.specs.Worklists.{Woken, touches}
-use Rattle.engine.proofs.Worklists.{eight-sheets, woken-same, zeros-at}
+use Rattle.engine.proofs.Worklists.{eight-sheets, touched-sheet, untouched-column, woken-same, zeros-at}
 
 module _ (b : List ℕ) where
   pub columns-count : columnCount (bookOf b) ≡ columnsOf b
@@ -42,6 +42,10 @@ module _ (b : List ℕ) where
   pub sheets-count : length (bookOf b .sheets) ≡ sheetsOf b
   unfolding bookOf
   sheets-count = length-tab (sheetsOf b) (sheetOf b)
+
+  pub count-at : (c : ℕ) → c < columnsOf b → getD (bookOf b .counts) c 0 ≡ valuesOf b c
+  unfolding bookOf
+  count-at c l = getD-tab 0 (columnsOf b) (valuesOf b) c l
 
   pub store-in : {D : List ℕ} → IsStore 16 D → IsStore (columnCount (bookOf b)) (storeIn b D)
   store-in {D} d = record { columns = length-tab (columnsOf b) _ ∙ sym columns-count; bits = λ c. go c (below c (columnsOf b)) }
@@ -77,10 +81,6 @@ module _ (b : List ℕ) where
       go (inr l) =
           mask-ext 32 (getD D c 0) 0 (d .bits c) (omega arith) (λ v q. empty l v (either (bit v (getD D c 0))))
           ∙ sym (getD-tab-out (columnsOf b) (λ c. getD D c 0) c l)
-
-not-false : (x : Bool) → not x ≡ false → x ≡ true
-not-false true p = refl
-not-false false p = absurd (false≢true (sym p))
 
 -- ---- facts that go over to other arrays
 pub valid-within : {b : List ℕ} {first s : ℕ} → AtSheet b first s → {B D : List ℕ} → Within B D → (r : ℕ)
@@ -258,7 +258,6 @@ module _ (b : List ℕ) (acc : Accepted b) where
             go (inr e) = f (eqb-false t s e)
 
         pub going-on : Going b opening D₀ D′ W′ X′ N′ G′ left′
-        unfolding touches
         going-on = record {
           start = h .start;
           store = r .loses .store;
@@ -282,28 +281,12 @@ module _ (b : List ℕ) (acc : Accepted b) where
               let f = not-waiting t l n e in
               rw (other-changed t l n)
               (bit-or (columnOf b t j) (getD G t 0) lost
-              ∙ or-none (h .quiet t l (f .0) j m) (untouched t l j m (f .1) (either (bit (columnOf b t j) lost)))));
+              ∙ or-none (h .quiet t l (f .0) j m) (untouched-column lay t lost j l m (f .1))));
           used = λ t e. used t e;
         }
           where
             or-none : {x y : Bool} → x ≡ false → y ≡ false → (x || y) ≡ false
             or-none p q = rw (p, q) refl
-
-            both : (t k : ℕ) → bit k (getD M t 0) ≡ true → bit k lost ≡ true → eqb (bitAnd (getD M t 0) lost) 0 ≡ true → ⊥
-            both t k p q e =
-                false≢true
-                (sym (bit-of-zero k) ∙ ap (bit k) (sym (eqb-true (bitAnd (getD M t 0) lost) 0 e)) ∙ bit-and k (getD M t 0) lost ∙ and-i p q)
-
-            untouched : (t : ℕ) → t < sheetsOf b → (j : ℕ) → j < widthOf b t → touches (getD M t 0) lost ≡ false
-                → (bit (columnOf b t j) lost ≡ true) ⊎ (bit (columnOf b t j) lost ≡ false) → bit (columnOf b t j) lost ≡ false
-            untouched t l j m f (inr e) = e
-            untouched t l j m f (inl e) = absurd (both t (columnOf b t j) (lay .columns t l .all j m) e (not-false _ f))
-
-            touched : (t : ℕ) → touches (getD M t 0) lost ≡ true → (t < sheetsOf b) ⊎ (sheetsOf b ≤ t) → t < sheetsOf b
-            touched t f (inl l) = l
-            touched t f (inr l) =
-                absurd
-                (false≢true (sym (ap (λ (x : ℕ). touches x lost) (lay .past t l) ∙ ap (λ (x : ℕ). not (eqb x 0)) (and-zero-l lost)) ∙ f))
 
             used : (t : ℕ) → bit t left′ ≡ true → t < sheetsOf b
             used t e =
@@ -312,7 +295,7 @@ module _ (b : List ℕ) (acc : Accepted b) where
                 go : (bit t rest ≡ true) ⊎ ((not (eqb t s) && touches (getD M t 0) lost) ≡ true) → (eqb t s ≡ true) ⊎ (eqb t s ≡ false) → t < sheetsOf b
                 go (inl f) (inl q) = rw (eqb-true t s q) one
                 go (inl f) (inr q) = h .used t (sym (rest-bit t (eqb-false t s q)) ∙ f)
-                go (inr f) q = touched t (and-r (not (eqb t s)) _ f) (below t (sheetsOf b))
+                go (inr f) q = touched-sheet lay t lost (and-r (not (eqb t s)) _ f)
 
         -- a turn strikes a value, or takes a sheet off the worklist
         pub going-less : rest < left → 256 * values 16 D′ + left′ < 256 * values 16 D + left
@@ -399,59 +382,64 @@ module _ (b : List ℕ) (acc : Accepted b) where
       }
 
 -- ---- a failed store, emptied
-pub settled-failed : (b : List ℕ) → Accepted b → {D E W X N : List ℕ} → Propagated b D E W X N false
-    → Settled b D (replicate 16 0) (replicate 64 0) X (replicate 8 0)
-unfolding has
-settled-failed b acc {D} {E} {W} {X} {N} h =
-    record {
-      store = record { columns = length-replicate {A = ℕ} 16 0; bits = λ c. rw (zeros-at 16 c) (omega arith) };
-      sized =
-          record {
-            words = length-replicate {A = ℕ} 64 0;
-            bits = λ i. rw (zeros-at 64 i) (omega arith);
-            index = h .sized .index;
-            limits = length-replicate {A = ℕ} 8 0;
-          };
-      state = rw (h .failed refl) (
-          record {
-            domain = λ c. zeros-at 16 c ∙ sym (no-value c);
-            rows = λ s w l m. zeros-at 64 (8 * s + w) ∙ no-row s w (omega (arith, sheets-count b));
-            indexed = λ s l.
-                let k = h .indexed s (omega (arith, sheets-count b)) in
-                record {
-                  few = rw (zeros-at 8 s) (omega arith);
-                  each = k .each;
-                  once = k .once;
-                  every = k .every;
-                  limit = λ i m. (
-                    λ q. absurd (omega (arith, zeros-at 8 s)),
-                    λ q. absurd (omega (arith, zeros-at 64 (8 * s + ofSheet X s i))),
-                  );
-                };
-          });
-    }
-  where
-    C : ℕ
-    C = columnCount (bookOf b)
+module _ (b : List ℕ) (acc : Accepted b) where
+  abbrev C : ℕ
+  C = columnCount (bookOf b)
 
-    no-value : (c : ℕ) → getD (emptyStore C) c 0 ≡ 0
-    no-value c =
-        mask-ext 32 (getD (emptyStore C) c 0) 0 (empty-store C .bits c) (omega arith)
-        (λ v l. none v (either (bit v (getD (emptyStore C) c 0))))
-      where
-        none : (v : ℕ) → (bit v (getD (emptyStore C) c 0) ≡ true) ⊎ (bit v (getD (emptyStore C) c 0) ≡ false)
-            → bit v (getD (emptyStore C) c 0) ≡ bit v 0
-        none v (inl e) = absurd (empty-has C c v e)
-        none v (inr e) = e ∙ sym (bit-of-zero v)
+  pub no-value : (c : ℕ) → getD (emptyStore (columnCount (bookOf b))) c 0 ≡ 0
+  unfolding has
+  no-value c =
+      mask-ext 32 (getD (emptyStore C) c 0) 0 (empty-store C .bits c) (omega arith)
+      (λ v l. none v (either (bit v (getD (emptyStore C) c 0))))
+    where
+      none : (v : ℕ) → (bit v (getD (emptyStore C) c 0) ≡ true) ⊎ (bit v (getD (emptyStore C) c 0) ≡ false)
+          → bit v (getD (emptyStore C) c 0) ≡ bit v 0
+      none v (inl e) = absurd (empty-has C c v e)
+      none v (inr e) = e ∙ sym (bit-of-zero v)
 
-    no-row : (s w : ℕ) → s < sheetsOf b → 0 ≡ validWord (emptyStore C) (sheetAt (bookOf b) s) w
-    no-row s w l =
-        word-same (emptyStore C) (sheetAt (bookOf b) s) w 0 (omega arith)
-        (λ k m. bit-of-zero k ∙ sym (none (64 * w + k) (either (validRow (emptyStore C) (sheetAt (bookOf b) s) (64 * w + k)))))
-      where
-        none : (r : ℕ) → (validRow (emptyStore C) (sheetAt (bookOf b) s) r ≡ true) ⊎ (validRow (emptyStore C) (sheetAt (bookOf b) s) r ≡ false)
-            → validRow (emptyStore C) (sheetAt (bookOf b) s) r ≡ false
-        none r (inl e) =
-            let a = at-sheet b acc s l in
-            absurd (empty-has C (columnOf b s 0) (valueAt b s r 0) (valid-e a (emptyStore C) r e .1 0 (width-most a .0)))
-        none r (inr e) = e
+  no-row : (s w : ℕ) → s < sheetsOf b → 0 ≡ validWord (emptyStore C) (sheetAt (bookOf b) s) w
+  no-row s w l =
+      word-same (emptyStore C) (sheetAt (bookOf b) s) w 0 (omega arith)
+      (λ k m. bit-of-zero k ∙ sym (none (64 * w + k) (either (validRow (emptyStore C) (sheetAt (bookOf b) s) (64 * w + k)))))
+    where
+      none : (r : ℕ) → (validRow (emptyStore C) (sheetAt (bookOf b) s) r ≡ true) ⊎ (validRow (emptyStore C) (sheetAt (bookOf b) s) r ≡ false)
+          → validRow (emptyStore C) (sheetAt (bookOf b) s) r ≡ false
+      none r (inl e) =
+          let a = at-sheet b acc s l in
+          absurd (empty-has C (columnOf b s 0) (valueAt b s r 0) (valid-e a (emptyStore C) r e .1 0 (width-most a .0)))
+      none r (inr e) = e
+
+  -- the index of any state serves
+  pub empty-state : (W X N : List ℕ) → ((s : ℕ) → s < sheetsOf b → IndexOf s W X N)
+      → StateOf (bookOf b) (emptyStore (columnCount (bookOf b))) (arrays (replicate 16 0) (replicate 64 0) X (replicate 8 0))
+  empty-state W X N h = record {
+    domain = λ c. zeros-at 16 c ∙ sym (no-value c);
+    rows = λ s w l m. zeros-at 64 (8 * s + w) ∙ no-row s w (omega (arith, sheets-count b));
+    indexed = λ s l.
+        let k = h s (omega (arith, sheets-count b)) in
+        record {
+          few = rw (zeros-at 8 s) (omega arith);
+          each = k .each;
+          once = k .once;
+          every = k .every;
+          limit = λ i m. (
+            λ q. absurd (omega (arith, zeros-at 8 s)),
+            λ q. absurd (omega (arith, zeros-at 64 (8 * s + ofSheet X s i))),
+          );
+        };
+  }
+
+  pub empty-domains : IsStore 16 (replicate 16 0)
+  empty-domains = record { columns = length-replicate {A = ℕ} 16 0; bits = λ c. rw (zeros-at 16 c) (omega arith) }
+
+  pub empty-sized : {W X N : List ℕ} → Sized W X N → Sized (replicate 64 0) X (replicate 8 0)
+  empty-sized z = record {
+    words = length-replicate {A = ℕ} 64 0;
+    bits = λ i. rw (zeros-at 64 i) (omega arith);
+    index = z .index;
+    limits = length-replicate {A = ℕ} 8 0;
+  }
+
+  pub settled-failed : {D E W X N : List ℕ} → Propagated b D E W X N false → Settled b D (replicate 16 0) (replicate 64 0) X (replicate 8 0)
+  settled-failed {D} {E} {W} {X} {N} h =
+      record { store = empty-domains; sized = empty-sized (h .sized); state = rw (h .failed refl) (empty-state W X N (h .indexed)) }

@@ -8,7 +8,7 @@ use Prim.Native.Nat.{_%_, _*_, _+_, _-_, _<_, _^_, _≤_, ℕ}
 use native.Mathlib.Nat.{lt-of-le-of-lt}
 use native.Mathlib.Omega.{arith}
 use lib.Arith.{lt-of-le-ne}
-use lib.Bits.{and-le-l, and-zero-r, bitAnd, bitOr, or-lt, or-zero-r}
+use lib.Bits.{and-le-l, and-zero-l, and-zero-r, bitAnd, bitOr, or-lt, or-zero-r}
 use lib.Dec.{eqb, ltb}
 use lib.ListN.{List·getD-eq-default, getD, getD-replicate, length, length-replicate, length-set, replicate, set}
 use lib.Pow.{pow-lt}
@@ -16,14 +16,14 @@ use lib.Seq.{getD-set-other, getD-set-same}
 use borrow.Author.Tests.{eqb-false, eqb-true, le-ltb, lt-ltb}
 use Rattle.model.specs.Masks.{bit}
 use Rattle.model.proofs.Masks.{bit-and, bit-of-zero, bit-or, bit-pow, bit-pow-only, bit-pow-other, mask-ext}
-use Rattle.model.proofs.Tests.{and-false, and-true, below, either, or-e, or-l, or-r}
-use Rattle.book.specs.Head.{columnOf, sheetsOf, widthOf}
+use Rattle.model.proofs.Tests.{and-false, and-i, and-true, below, either, or-e, or-l, or-r}
+use Rattle.book.specs.Head.{columnOf, columnsOf, rowsOf, sheetsOf, valuesOf, widthOf}
 use Rattle.book.specs.Rows.{blocksNeeded, blocksOf}
 use Rattle.book.specs.Verdicts.{Accepted}
 use Rattle.book.proofs.Decoded.{accepted-right}
 use Rattle.book.proofs.Faults.{firstBlock-later, firstBlock-more, firstBlock-zero}
 use Rattle.book.proofs.Results.{right-length}
-use Rattle.book.proofs.Right.{sheets-most}
+use Rattle.book.proofs.Right.{columns-range, rows-most, sheets-most, values-range}
 use Rattle.words.specs.Sheets.{firstByte}
 use Rattle.words.proofs.Gathers.{complement}
 use Rattle.words.proofs.Walks.{shifted-one}
@@ -36,6 +36,15 @@ module _ (b : List ℕ) (acc : Accepted b) where
 
   pub eight-sheets : (s : ℕ) → s < sheetsOf b → s < 8
   eight-sheets s l = omega (arith, sheets-most b (accepted-right b acc .head))
+
+  pub sixteen-columns : (c : ℕ) → c < columnsOf b → c < 16
+  sixteen-columns c l = omega (arith, columns-range b (accepted-right b acc .head) .1)
+
+  pub values-few : (c : ℕ) → c < columnsOf b → valuesOf b c ≤ 32
+  values-few c l = values-range b (accepted-right b acc .head) c l .1
+
+  pub rows-few : (s : ℕ) → s < sheetsOf b → rowsOf b s ≤ 508
+  rows-few s l = rows-most b (accepted-right b acc .head) s l
 
   -- the rows of a sheet end within the file
   pub rows-end : (s : ℕ) → s < sheetsOf b → firstByte b s + 512 * blocksOf b s ≤ 16896
@@ -237,3 +246,35 @@ woken-same {M} {G} {G′} {s} {lost} {waiting} {waiting′} h l e =
     (λ f k.
     h .waits f k
     ∙ (rw (e, and-zero-r (getD M f 0), and-false (not (eqb f s)), or-false (bit f waiting)) refl))
+
+-- ---- sheets that a set of columns touches
+not-false : (x : Bool) → not x ≡ false → x ≡ true
+not-false true p = refl
+not-false false p = absurd (false≢true (sym p))
+
+-- a sheet with a column in `lost` is one of the book's
+
+pub touched-sheet : {b first M : List ℕ} → LayoutOf b first M → (s lost : ℕ) → touches (getD M s 0) lost ≡ true → s < sheetsOf b
+unfolding touches
+touched-sheet {b} {first} {M} lay s lost f = go (below s (sheetsOf b))
+  where
+    go : (s < sheetsOf b) ⊎ (sheetsOf b ≤ s) → s < sheetsOf b
+    go (inl l) = l
+    go (inr l) =
+        absurd (false≢true (sym (ap (λ (x : ℕ). touches x lost) (lay .past s l) ∙ ap (λ (x : ℕ). not (eqb x 0)) (and-zero-l lost)) ∙ f))
+
+-- one without has none of its columns in it
+pub untouched-column : {b first M : List ℕ} → LayoutOf b first M → (s lost j : ℕ) → s < sheetsOf b → j < widthOf b s
+    → touches (getD M s 0) lost ≡ false → bit (columnOf b s j) lost ≡ false
+unfolding touches
+untouched-column {b} {first} {M} lay s lost j l m f = go (either (bit (columnOf b s j) lost))
+  where
+    go : (bit (columnOf b s j) lost ≡ true) ⊎ (bit (columnOf b s j) lost ≡ false) → bit (columnOf b s j) lost ≡ false
+    go (inr e) = e
+    go (inl e) =
+        absurd
+        (false≢true
+        (sym (bit-of-zero (columnOf b s j))
+        ∙ ap (bit (columnOf b s j)) (sym (eqb-true (bitAnd (getD M s 0) lost) 0 (not-false _ f)))
+        ∙ bit-and (columnOf b s j) (getD M s 0) lost
+        ∙ and-i (lay .columns s l .all j m) e))

@@ -1,3 +1,5 @@
 pub mod Layouts
 pub mod Worklists
 pub mod Propagation
+pub mod Openings
+pub mod Sessions

@@ -1,4 +1,5 @@
 // The engine: propagation over the sheets that wait, the state, the session, and the orders.
 pub mod layout;
 pub mod propagate;
+pub mod state;
 pub mod worklist;

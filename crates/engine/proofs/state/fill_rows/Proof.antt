@@ -1,0 +1,67 @@
+use mathlib.Core.Path.{_≡_, refl}
+use Prim.Native.Nat.{_-_, _<_, _≤_}
+use native.Mathlib.Omega.{arith}
+use borrow.Author.Needs.{needs}
+use Rattle.book.specs.Head.{sheetsOf}
+use Rattle.engine.specs.Openings.{FullRows}
+use Rattle.engine.proofs.Fills.{rows-more, rows-none}
+use Rattle.engine.proofs.Worklists.{eight-sheets, head-length, rows-few}
+use Rattle.engine.proofs.state.fill_rows.Statement.{statement}
+use Rattle.engine.proofs.state.fill_rows.Tie as tie
+
+abbrev Inv-loop : tie.InvT-loop
+Inv-loop book live₀ limit₀ n s₀ live limit s = FullRows book s live limit × (s ≤ n)
+
+abbrev μ-loop : tie.MeasureT-loop
+μ-loop book live₀ limit₀ n s₀ live limit s = n - s
+
+sheets-requires : tie.Need-sheets-requires Inv-loop μ-loop
+sheets-requires c κs = head-length _ (c .before .pre .0)
+
+loop-holds : tie.Need-loop-holds Inv-loop μ-loop
+loop-holds c = (rows-none _ (c .before .before .pre .1) (c .before .before .pre .2), omega arith)
+
+rows-requires : tie.Need-rows-requires Inv-loop μ-loop
+rows-requires c κs = let l : c .before .loop .s < sheetsOf (c .before .before .before .before .args .book .now) = omega (arith, c .before .before .sheets .ensures .0, c .loop-test .taken) in (head-length _ (c .before .before .before .before .pre .0), eight-sheets _ (c .before .before .before .before .pre .0) _ l)
+
+fill-words-requires : tie.Need-fill-words-requires Inv-loop μ-loop
+fill-words-requires c κs = let l : c .before .before .before .loop .s < sheetsOf (c .before .before .before .before .before .before .args .book .now) = omega (arith, c .before .before .before .before .sheets .ensures .0, c .before .before .loop-test .taken) in (eight-sheets _ (c .before .before .before .before .before .before .pre .0) _ l, omega (arith, c .before .rows .ensures .0, rows-few _ (c .before .before .before .before .before .before .pre .0) _ l), c .before .before .before .loop .inv .0 .words)
+
+add-limit : tie.Need-add-limit Inv-loop μ-loop
+add-limit c = search needs
+
+cast-limit : tie.Need-cast-limit Inv-loop μ-loop
+cast-limit c = let l : c .before .before .before .before .loop .s < sheetsOf (c .before .before .before .before .before .before .before .args .book .now) = omega (arith, c .before .before .before .before .before .sheets .ensures .0, c .before .before .before .loop-test .taken) in let k : c .before .before .rows .result ≤ 508 = omega (arith, c .before .before .rows .ensures .0, rows-few _ (c .before .before .before .before .before .before .before .pre .0) _ l) in search (needs, k)
+
+element-write-limit : tie.Need-element-write-limit Inv-loop μ-loop
+element-write-limit c = let l : c .before .before .before .before .loop .s < sheetsOf (c .before .before .before .before .before .before .before .args .book .now) = omega (arith, c .before .before .before .before .before .sheets .ensures .0, c .before .before .before .loop-test .taken) in eight-sheets _ (c .before .before .before .before .before .before .before .pre .0) _ l
+
+add-s : tie.Need-add-s Inv-loop μ-loop
+add-s c = search needs
+
+loop-less : tie.Need-loop-less Inv-loop μ-loop
+loop-less c = search needs
+
+loop-again : tie.Need-loop-again Inv-loop μ-loop
+loop-again c = let l : c .before .before .before .before .loop .s < sheetsOf (c .before .before .before .before .before .before .before .args .book .now) = omega (arith, c .before .before .before .before .before .sheets .ensures .0, c .before .before .before .loop-test .taken) in (rows-more (c .before .before .before .before .loop .inv .0) (eight-sheets _ (c .before .before .before .before .before .before .before .pre .0) _ l) (c .before .before .rows .ensures .0) (c .fill-words .ensures) refl, omega (arith, c .before .before .before .loop-test .taken))
+
+returns : tie.Need-returns Inv-loop μ-loop
+returns c = let e : c .before .loop .s ≡ sheetsOf (c .before .before .before .before .args .book .now) = omega (arith, c .before .before .sheets .ensures .0, c .loop-test .left, c .before .loop .inv .1) in rw e at (c .before .loop .inv .0)
+
+pub fill-rows-spec : {M : Type 1} → statement M
+fill-rows-spec =
+    tie.close
+    (tie.spec
+    Inv-loop
+    μ-loop
+    sheets-requires
+    loop-holds
+    rows-requires
+    fill-words-requires
+    add-limit
+    cast-limit
+    element-write-limit
+    add-s
+    loop-less
+    loop-again
+    returns)

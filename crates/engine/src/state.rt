@@ -1,0 +1,202 @@
+// A state: the domains, and for each sheet its valid rows in words, with their index.
+//
+//     dom     | column 0: values left, bit v for value v | column 1 | .. | column 15 |            0 from the book's last column on
+//     live    | sheet 0: 8 words, bit r mod 64 of word r div 64 is row r | sheet 1: 8 words | ..
+//     index   | sheet 0: 8 word numbers, a permutation | sheet 1 | ..
+//     limit   | sheet 0: how many of its words are not zero (one more than the limit) | sheet 1 | ..
+//
+// Always: the domains are the closure of what the trail allows; a row is set exactly when it is valid in them; position i of a sheet's index
+// is below `limit` exactly when the word that it names is not zero. In a failed state all domains and words are zero.
+use crate::propagate::*;
+use crate::worklist::*;
+ghost use mathlib.Core.Path.{_≡_};
+ghost use mathlib.Core.List.{[]};
+ghost use Prim.Native.Nat.{_+_, _*_, _<_, _≤_};
+ghost use lib.ListN.{replicate};
+ghost use Rattle.book.specs.Verdicts.{Accepted};
+ghost use Rattle.book.specs.Head.{columnsOf, sheetsOf};
+ghost use Rattle.engine.specs.Layouts.{LayoutOf};
+ghost use Rattle.engine.specs.Openings.{placesBelow, FullDomains, FullWord, SixtyFour, FullWords, FullRows, FullIndex};
+ghost use Rattle.engine.specs.Sessions.{StateIs, SomeState, Emptied, Narrows};
+
+pub struct State {
+    pub dom: [u32; 16],
+    pub live: [u64; 64],
+    pub index: [u8; 64],
+    pub limit: [u8; 8],
+}
+
+// ---- the opening: every value and every row
+
+// The places below n.
+pub fn places_below(n: usize) -> u32
+    requires { ⌜ n ≤ 32 ⌝ }
+    ensures { λ r. ⌜ r ≡ placesBelow n ⌝ }
+{
+    if n == 0 {
+        return 0;
+    }
+    let all: u32 = 4294967295;
+    all >> (32 - (n as u32))
+}
+
+// All values of each column.
+fn fill_domains(book: &[u8], dom: &mut [u32; 16])
+    requires { ⌜ Accepted (now book) × (now dom ≡ replicate 16 0) ⌝ }
+    ensures { λ r. ⌜ FullDomains (now (book .entry)) (columnsOf (now (book .entry))) (now (dom .exit)) ⌝ }
+{
+    let n = book::head::columns(book);
+    let mut c: usize = 0;
+    while c < n {
+        dom[c] = places_below(book::head::values(book, c));
+        c += 1;
+    }
+}
+
+// Word w of a sheet with n rows.
+fn full_word(n: usize, w: usize) -> u64
+    requires { ⌜ (n ≤ 512) × (w < 8) ⌝ }
+    ensures { λ r. ⌜ FullWord n w r ⌝ }
+{
+    let all: u64 = 18446744073709551615;
+    if 64 * w + 64 <= n {
+        return all;
+    }
+    if 64 * w < n {
+        return all >> (64 * w + 64 - n);
+    }
+    0
+}
+
+// The words of sheet s, which has n rows.
+fn fill_words(live: &mut [u64; 64], s: usize, n: usize)
+    requires { ⌜ (s < 8) × (n ≤ 512) × SixtyFour (now live) ⌝ }
+    ensures { λ r. ⌜ FullWords (now (live .entry)) s n 8 (now (live .exit)) ⌝ }
+{
+    let mut w: usize = 0;
+    while w < 8 {
+        live[8 * s + w] = full_word(n, w);
+        w += 1;
+    }
+}
+
+// The words of every sheet.
+fn fill_rows(book: &[u8], live: &mut [u64; 64], limit: &mut [u8; 8])
+    requires { ⌜ Accepted (now book) × (now live ≡ replicate 64 0) × (now limit ≡ replicate 8 0) ⌝ }
+    ensures { λ r. ⌜ FullRows (now (book .entry)) (sheetsOf (now (book .entry))) (now (live .exit)) (now (limit .exit)) ⌝ }
+{
+    let n = book::head::sheets(book);
+    let mut s: usize = 0;
+    while s < n {
+        let rows = book::head::rows(book, s);
+        fill_words(live, s, rows);
+        limit[s] = ((rows + 63) / 64) as u8;
+        s += 1;
+    }
+}
+
+// Each sheet's words in their own order.
+fn fill_index(index: &mut [u8; 64])
+    requires { ⌜ now index ≡ replicate 64 0 ⌝ }
+    ensures { λ r. ⌜ FullIndex 64 (now (index .exit)) ⌝ }
+{
+    let mut i: usize = 0;
+    while i < 64 {
+        index[i] = (i % 8) as u8;
+        i += 1;
+    }
+}
+
+// The state of the empty trail.
+pub fn opening(book: &[u8], first: &[usize; 8], mask: &[u32; 8]) -> State
+    requires { ⌜ Accepted (now book) × LayoutOf (now book) (now first) (now mask) ⌝ }
+    ensures { λ r. ⌜ StateIs (now (book .entry)) [] r ⌝ }
+{
+    let mut dom = [0u32; 16];
+    let mut live = [0u64; 64];
+    let mut index = [0u8; 64];
+    let mut limit = [0u8; 8];
+    fill_domains(book, &mut dom);
+    fill_rows(book, &mut live, &mut limit);
+    fill_index(&mut index);
+    let waiting = places_below(book::head::sheets(book));
+    settle(
+        book,
+        first,
+        mask,
+        waiting,
+        0,
+        true,
+        &mut dom,
+        &mut live,
+        &mut index,
+        &mut limit,
+    );
+    State {
+        dom: dom,
+        live: live,
+        index: index,
+        limit: limit,
+    }
+}
+
+impl State {
+    // No value and no row.
+    fn failed(self) -> State
+        ensures { λ r. ⌜ Emptied self r ⌝ }
+    {
+        let index = self.index;
+        State {
+            dom: [0u32; 16],
+            live: [0u64; 64],
+            index: index,
+            limit: [0u8; 8],
+        }
+    }
+
+    // The state after column c is cut to the values in m.
+    pub fn narrowed(
+        self,
+        book: &[u8],
+        first: &[usize; 8],
+        mask: &[u32; 8],
+        c: usize,
+        m: u32,
+    ) -> State
+        requires { ⌜ Accepted (now book) × LayoutOf (now book) (now first) (now mask) × (c < columnsOf (now book)) × SomeState (now book) self ⌝ }
+        ensures { λ r. ⌜ Narrows (now (book .entry)) c m self r ⌝ }
+    {
+        let mut dom = self.dom;
+        let d = dom[c];
+        let e = d & m;
+        if e == d {
+            return self;
+        }
+        if e == 0 {
+            return self.failed();
+        }
+        dom[c] = e;
+        let mut live = self.live;
+        let mut index = self.index;
+        let mut limit = self.limit;
+        let column = 1u32 << c;
+        settle(
+            book,
+            first,
+            mask,
+            waiting_for(mask, column),
+            column,
+            false,
+            &mut dom,
+            &mut live,
+            &mut index,
+            &mut limit,
+        );
+        State {
+            dom: dom,
+            live: live,
+            index: index,
+            limit: limit,
+        }
+    }
+}

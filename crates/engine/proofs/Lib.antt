@@ -2,3 +2,4 @@ pub mod Worklists
 pub mod Turns
 pub mod Fills
 pub mod Narrowings
+pub mod Steps

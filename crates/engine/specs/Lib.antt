@@ -3,3 +3,4 @@ pub mod Worklists
 pub mod Propagation
 pub mod Openings
 pub mod Sessions
+pub mod Holds

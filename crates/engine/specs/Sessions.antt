@@ -23,8 +23,8 @@ pub record StateIs (b : List ℕ) (L : List Entry) (st : State) : Type 0 where
 
 -- a state of some trail
 pub record SomeState (b : List ℕ) (st : State) : Type 0 where
-  pub trail : List Entry
-  pub is : StateIs b trail st
+  pub stands : List Entry
+  pub is : StateIs b stands st
 
 -- no value and no row; the index stays
 pub record Emptied (st t : State) : Type 0 where

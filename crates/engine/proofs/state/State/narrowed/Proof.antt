@@ -36,7 +36,7 @@ waiting-for-requires : tie.Need-waiting-for-requires
 waiting-for-requires c κs = search needs
 
 settle-requires : tie.Need-settle-requires
-settle-requires c κs = (c .before .before .before .before .before .before .before .before .before .before .before .before .pre .0, c .before .before .before .before .before .before .before .before .before .before .before .before .pre .1, narrow-ready _ (c .before .before .before .before .before .before .before .before .before .before .before .before .pre .0) (c .before .before .before .before .before .before .before .before .before .before .before .before .pre .3 .trail) (c .before .before .before .before .before .before .before .before .before .before .before .before .pre .3 .is .holds) (c .before .before .before .before .before .before .before .before .before .before .before .before .pre .3 .is .store) (c .before .before .before .before .before .before .before .before .before .before .before .before .pre .3 .is .sized) _ _ (c .before .before .before .before .before .before .before .before .before .before .before .before .pre .2) (c .before .before .before .before .before .before .before .before .if2 .left) (c .before .before .before .before .before .before .before .before .before .before .before .before .pre .1) (c .before .before .before .before .waiting-for .ensures))
+settle-requires c κs = (c .before .before .before .before .before .before .before .before .before .before .before .before .pre .0, c .before .before .before .before .before .before .before .before .before .before .before .before .pre .1, narrow-ready _ (c .before .before .before .before .before .before .before .before .before .before .before .before .pre .0) (c .before .before .before .before .before .before .before .before .before .before .before .before .pre .3 .stands) (c .before .before .before .before .before .before .before .before .before .before .before .before .pre .3 .is .holds) (c .before .before .before .before .before .before .before .before .before .before .before .before .pre .3 .is .store) (c .before .before .before .before .before .before .before .before .before .before .before .before .pre .3 .is .sized) _ _ (c .before .before .before .before .before .before .before .before .before .before .before .before .pre .2) (c .before .before .before .before .before .before .before .before .if2 .left) (c .before .before .before .before .before .before .before .before .before .before .before .before .pre .1) (c .before .before .before .before .waiting-for .ensures))
 
 returns-3 : tie.Need-returns-3
 returns-3 c = state-settled _ (c .before .before .before .before .before .before .before .before .before .before .before .before .before .pre .0) _ _ (c .before .before .before .before .before .before .before .before .before .before .before .before .before .pre .2) _ _ (c .settle .ensures)

@@ -1,0 +1,63 @@
+-- What a session is when a trail stands, and what each order makes of it.
+use mathlib.Core.Path.{_≡_}
+use mathlib.Core.List.{List, [], _++_, _∷_}
+use Prim.Native.Nat.{_<_, _≤_, suc, ℕ}
+use lib.ListN.{getD, length}
+use Rattle.model.specs.Orders.{Entry, before, checkpoint, depth, kind, narrowed, push, refusal, trail}
+use Rattle.book.specs.Decoding.{bookOf}
+use Rattle.engine.specs.Sessions.{StateIs}
+use Rattle.engine.specs.declared.session.Session.{Session}
+use Rattle.engine.specs.declared.state.State.{State}
+
+-- what stands past the last saved state
+abbrev pub noState : State
+noState = record { dom = []; live = []; index = []; limit = [] }
+
+-- the session s over the book b when the trail L stands: its state is that of L, its depth the number of checkpoints, and for each checkpoint
+-- it has saved the state of the trail before it: domains, words, index and limits
+pub record Holds (b : List ℕ) (L : List Entry) (s : Session) : Type 0 where
+  pub current : StateIs b L (s .now)
+  pub deep : s .depth ≡ depth L
+  pub few : depth L ≤ 16
+  pub marked : (k : ℕ) → k < depth L → StateIs b (before (suc k) L) (getD (s .saved) k noState)
+  pub size : length (s .saved) ≡ 16
+
+-- a session of some trail
+pub record SomeSession (b : List ℕ) (s : Session) : Type 0 where
+  pub stands : List Entry
+  pub holds : Holds b stands s
+
+-- whatever trail stood: the narrow stands after it
+abbrev pub NarrowHolds : List ℕ → ℕ → ℕ → Session → Session → Type 0
+NarrowHolds b c m s t = (L : List Entry) → Holds b L s → Holds b (L ++ (narrowed c m ∷ [])) t
+
+-- a checkpoint stands after it
+abbrev pub MarkHolds : Session → Session → Type 0
+MarkHolds s t = (b : List ℕ) (L : List Entry) → Holds b L s → Holds b (L ++ (checkpoint ∷ [])) t
+
+-- what stands before checkpoint m
+abbrev pub BackHolds : ℕ → Session → Session → Type 0
+BackHolds m s t = (b : List ℕ) (L : List Entry) → Holds b L s → Holds b (before m L) t
+
+-- ---- one order
+-- r is the refusal of the order o, of kind k, whatever trail of depth d stands; 0 where it is accepted
+abbrev pub RefusesKind : List ℕ → ℕ → ℕ → List ℕ → ℕ → Type 0
+RefusesKind b k d o r = (L : List Entry) → kind o ≡ k → d ≡ depth L → r ≡ refusal (bookOf b) L o
+
+-- the same of an order of any kind
+abbrev pub Refuses : List ℕ → ℕ → List ℕ → ℕ → Type 0
+Refuses b d o r = (L : List Entry) → d ≡ depth L → r ≡ refusal (bookOf b) L o
+
+-- whatever trail stood, what the order o makes of it stands
+abbrev pub Stepped : List ℕ → Session → List ℕ → Session → Type 0
+Stepped b s o t = (L : List Entry) → Holds b L s → Holds b (push (bookOf b) L o) t
+
+-- ---- whole lists
+-- "Each order gets the session that the one before it gave back": from s the orders lead to t
+abbrev pub Chain : List ℕ → Session → List (List ℕ) → Session → Type 0
+Chain b s [] t = s ≡ t
+Chain b s (o ∷ os) t = (m : Session) × Stepped b s o m × Chain b m os t
+
+-- any list, from a session of the empty trail, ends in a session of its own trail: proved in proofs/Steps.antt
+abbrev pub ChainHolds : Type 0
+ChainHolds = (b : List ℕ) (os : List (List ℕ)) (s t : Session) → Holds b [] s → Chain b s os t → Holds b (trail (bookOf b) os) t

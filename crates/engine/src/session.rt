@@ -1,0 +1,89 @@
+// A session: the state, the depth, and the state saved at each mark. Each order takes it and gives it back.
+//
+//     now      the state of the trail
+//     depth    the number of marks that stand
+//     saved    | state before mark 1 | before mark 2 | .. | before mark `depth` | not used |
+//
+// Always, for the trail that stands: `now` is its state, `depth` its number of checkpoints, and saved state k is that of the trail cut before
+// checkpoint k + 1, with its words, index and limits.
+use crate::state::*;
+ghost use mathlib.Core.Path.{_≡_};
+ghost use mathlib.Core.List.{[]};
+ghost use Prim.Native.Nat.{_+_, _*_, _<_, _≤_};
+ghost use Rattle.book.specs.Verdicts.{Accepted};
+ghost use Rattle.book.specs.Head.{columnsOf};
+ghost use Rattle.engine.specs.Layouts.{LayoutOf};
+ghost use Rattle.engine.specs.Holds.{Holds, SomeSession, NarrowHolds, MarkHolds, BackHolds};
+
+pub struct Session {
+    pub now: State,
+    pub depth: usize,
+    pub saved: [State; 16],
+}
+
+// A state with nothing in it, for marks that do not stand.
+fn blank() -> State {
+    State {
+        dom: [0u32; 16],
+        live: [0u64; 64],
+        index: [0u8; 64],
+        limit: [0u8; 8],
+    }
+}
+
+// The session of the empty trail.
+pub fn open(book: &[u8], first: &[usize; 8], mask: &[u32; 8]) -> Session
+    requires { ⌜ Accepted (now book) × LayoutOf (now book) (now first) (now mask) ⌝ }
+    ensures { λ r. ⌜ Holds (now (book .entry)) [] r ⌝ }
+{
+    let st = opening(book, first, mask);
+    let none = blank();
+    Session {
+        now: st,
+        depth: 0,
+        saved: [none; 16],
+    }
+}
+
+impl Session {
+    // Column c is cut to the values in m.
+    pub fn narrow(
+        mut self,
+        book: &[u8],
+        first: &[usize; 8],
+        mask: &[u32; 8],
+        c: usize,
+        m: u32,
+    ) -> Session
+        requires { ⌜ Accepted (now book) × LayoutOf (now book) (now first) (now mask) × (c < columnsOf (now book)) × SomeSession (now book) self ⌝ }
+        ensures { λ r. ⌜ NarrowHolds (now (book .entry)) c m self r ⌝ }
+    {
+        let st = self.now;
+        let t = st.narrowed(book, first, mask, c, m);
+        self.now = t;
+        self
+    }
+
+    // The state is saved.
+    pub fn mark(mut self) -> Session
+        requires { ⌜ self .depth < 16 ⌝ }
+        ensures { λ r. ⌜ MarkHolds self r ⌝ }
+    {
+        let d = self.depth;
+        let st = self.now;
+        self.saved[d] = st;
+        self.depth = d + 1;
+        self
+    }
+
+    // The state saved at mark m comes back, and the mark is gone.
+    pub fn back(mut self, m: usize) -> Session
+        requires { ⌜ (1 ≤ m) × (m ≤ self .depth) × (self .depth ≤ 16) ⌝ }
+        ensures { λ r. ⌜ BackHolds m self r ⌝ }
+    {
+        let st = self.saved[m - 1];
+        self.now = st;
+        self.depth = m - 1;
+        self
+    }
+}

@@ -3,3 +3,4 @@ pub mod Turns
 pub mod Fills
 pub mod Narrowings
 pub mod Steps
+pub mod Lists

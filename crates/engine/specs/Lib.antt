@@ -4,3 +4,4 @@ pub mod Propagation
 pub mod Openings
 pub mod Sessions
 pub mod Holds
+pub mod Lists

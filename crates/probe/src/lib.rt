@@ -40,10 +40,25 @@ fn run(book: &[u8], first: &[usize; 8], mask: &[u32; 8], orders: &[u8]) -> Ran
     while i < n {
         let at = 8 * i;
         let end = at + 8;
+        let order = &orders[at..end];
         let depth = s.depth;
-        last = refusal(book, depth, &orders[at..end]);
-        s = s.step(book, first, mask, &orders[at..end]);
         i += 1;
+        last = refusal(book, depth, order);
+        if last != 0 {
+            continue;
+        }
+        if order[0] == 1 {
+            s = s.narrow(book, first, mask, book::fields::wide(order[1]), mask_of(order));
+            continue;
+        }
+        if order[0] == 2 {
+            s = s.mark();
+            continue;
+        }
+        if order[0] == 3 {
+            s = s.back(book::fields::wide(order[1]));
+            continue;
+        }
     }
     Ran {
         last: last,

@@ -71,6 +71,119 @@ pub fn any_book(random: &mut Random) -> Book {
     Book { counts, sheets }
 }
 
+/// Up to three columns of up to four values, up to three sheets of up to eight rows.
+pub(crate) fn tiny_book(random: &mut Random) -> Book {
+    let columns = random.within(1..=3);
+    let counts: Vec<u8> = (0..columns).map(|_| random.within(1..=4) as u8).collect();
+    let sheets = (0..random.within(0..=3))
+        .map(|_| {
+            let rows = random.within(0..=8);
+            let width = random.within(1..=columns);
+            sheet(random, &counts, width, rows)
+        })
+        .collect();
+    Book { counts, sheets }
+}
+
+/// Columns that several sheets share, and few rows for each value of a column: a value that goes
+/// takes others with it.
+pub(crate) fn small_book(random: &mut Random) -> Book {
+    let columns = random.within(2..=8);
+    let most = random.within(2..=8);
+    let counts: Vec<u8> = (0..columns)
+        .map(|_| random.within(1..=most) as u8)
+        .collect();
+    let rows_of_a_value = random.within(1..=8);
+    let sheets = (0..random.within(1..=8))
+        .map(|_| {
+            let rows = random.within(1..=most * rows_of_a_value);
+            let width = random.within(1..=columns.min(4));
+            sheet(random, &counts, width, rows)
+        })
+        .collect();
+    Book { counts, sheets }
+}
+
+/// Sixteen columns of 32 values, eight sheets of 508 rows, of any widths.
+pub(crate) fn largest_book(random: &mut Random) -> Book {
+    let counts = vec![32; 16];
+    let sheets = (0..8)
+        .map(|_| {
+            let width = random.within(1..=4);
+            sheet(random, &counts, width, 508)
+        })
+        .collect();
+    Book { counts, sheets }
+}
+
+/// Columns in a ring, each as the one before it says, and the last one more than the first: a value
+/// that goes takes the next with it, and so on around. Every row stands there several times. With
+/// it, a value that may be in every column at once, if there is one.
+pub(crate) fn ring(random: &mut Random) -> (Book, Vec<u8>) {
+    let columns = random.within(2..=8);
+    let most = random.within(2..=32);
+    let count = random.within(2..=most);
+    let most = if random.once_in(8) { 508 } else { 80 };
+    let times = random.within(1..=most / (count + 1));
+    let mut sheets = Vec::new();
+    for next in 1..columns {
+        let rows = (0..count).map(|value| [value, value]);
+        sheets.push(pairs(random, next - 1, next, rows.collect(), times));
+    }
+    let mut rows: Vec<_> = (0..count - 1).map(|value| [value, value + 1]).collect();
+    // Without this row no value stays.
+    if !random.once_in(5) {
+        rows.push([count - 1, 0]);
+    }
+    let held = random.below(count);
+    // With this one something does, whatever else goes.
+    if random.once_in(2) {
+        rows.push([held, held]);
+    }
+    sheets.push(pairs(random, 0, columns - 1, rows, times));
+    random.shuffle(&mut sheets);
+    let counts = vec![count as u8; columns];
+    (Book { counts, sheets }, vec![held as u8; columns])
+}
+
+/// A sheet of two columns that has each of these rows so many times, in any order.
+fn pairs(
+    random: &mut Random,
+    first: usize,
+    second: usize,
+    rows: Vec<[usize; 2]>,
+    times: usize,
+) -> Sheet {
+    let row = |row: &[usize; 2]| row.map(|value| value as u8).to_vec();
+    let mut rows: Vec<Vec<u8>> = rows.iter().flat_map(|it| vec![row(it); times]).collect();
+    random.shuffle(&mut rows);
+    Sheet {
+        columns: vec![first as u8, second as u8],
+        rows,
+    }
+}
+
+/// One value of each column.
+pub(crate) fn any_set(random: &mut Random, book: &Book) -> Vec<u8> {
+    let counts = book.counts.iter();
+    counts
+        .map(|&count| random.below(count.into()) as u8)
+        .collect()
+}
+
+/// Puts a row of this set in the place of some row of each sheet, so that it is a full set of the
+/// book. A sheet without rows stays so.
+pub fn plant(random: &mut Random, book: &mut Book, set: &[u8]) {
+    for sheet in &mut book.sheets {
+        if !sheet.rows.is_empty() {
+            let columns = sheet.columns.iter();
+            let row = columns.map(|&column| set[usize::from(column)]).collect();
+            let place = random.below(sheet.rows.len());
+            sheet.rows[place] = row;
+        }
+    }
+}
+
 /// The values of a column, with the limits more often than by chance.
 fn count(random: &mut Random) -> u8 {
     match random.below(6) {

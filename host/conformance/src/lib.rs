@@ -1,23 +1,29 @@
 //! The proved library against the independent version of document 01.
 //!
 //! [`write()`] turns a described [`Book`] into bytes with right checks; [`Region`] and [`Damage`]
-//! spoil them; [`Case`] is one seeded input; [`agreed`] compares the two answers. The tests of this
-//! crate are the comparison itself.
+//! spoil them; [`Case`] is one seeded input; [`agreed`] compares the two answers. [`Run`] is a
+//! seeded book with a list of orders. The tests of this crate are the comparison itself.
 
 mod books;
 mod case;
 mod damage;
+mod orders;
 mod random;
 mod region;
+mod run;
+mod steps;
 mod tally;
 mod write;
 
-pub use books::{any_book, harbour, regular, tiny, BLOCK_EDGES};
+pub use books::{any_book, harbour, plant, regular, tiny, BLOCK_EDGES};
 pub use case::{Case, Hit, Mend, Story};
 pub use damage::Damage;
+pub use orders::{all_values, any_list, back, narrow, FINISH, MARK};
 pub use random::Random;
-pub use reference::{Book, Sheet};
+pub use reference::{Book, Order, Sheet};
 pub use region::Region;
+pub use run::{Run, Shape};
+pub use steps::Steps;
 pub use tally::{Outcomes, Places};
 pub use write::{mend, write, BLOCK, LONGEST, ROWS_OF_A_BLOCK};
 

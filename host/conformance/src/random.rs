@@ -36,6 +36,13 @@ impl Random {
         things[self.below(things.len())]
     }
 
+    /// Puts these things in any order.
+    pub fn shuffle<T>(&mut self, things: &mut [T]) {
+        for last in (1..things.len()).rev() {
+            things.swap(last, self.within(0..=last));
+        }
+    }
+
     /// True once in `times` on average.
     pub fn once_in(&mut self, times: usize) -> bool {
         self.below(times) == 0

@@ -1,9 +1,9 @@
-//! The library reads only the bytes that it is lent, and writes none.
+//! The library reads only the bytes that it is lent, and writes none but the domains.
 
 #![allow(unsafe_code)]
 #![cfg(all(target_os = "linux", target_arch = "x86_64"))]
 
-use conformance::{harbour, regular, write, Case};
+use conformance::{harbour, narrow, regular, write, Case, Run, MARK};
 use std::ffi::{c_int, c_void};
 use std::ptr;
 
@@ -12,6 +12,9 @@ const NOTHING: c_int = 0;
 const READ: c_int = 1;
 const READ_AND_WRITE: c_int = 3;
 const PRIVATE_AND_ANONYMOUS: c_int = 0x22;
+
+/// What stands in the domains before a call.
+const BEFORE: u32 = 0xA5C3_3C5A;
 
 unsafe extern "C" {
     fn mmap(
@@ -52,20 +55,39 @@ impl Guarded {
         assert_eq!(failed, 0);
     }
 
-    /// The library's number for a book that lies at the very start, or else at the very end, of
+    /// What is made of these bytes when they lie at the very start, or else at the very end, of
     /// the middle pages, while they can only be read.
-    fn check(&self, book: &[u8], at_start: bool) -> u64 {
-        let room = self.pages * PAGE - book.len();
+    fn lend<T>(&self, bytes: &[u8], at_start: bool, make: impl FnOnce(&[u8]) -> T) -> T {
+        let room = self.pages * PAGE - bytes.len();
         let place = self.middle().wrapping_add(if at_start { 0 } else { room });
         self.protect(READ_AND_WRITE);
-        // SAFETY: the place has room for the book and may be written now.
-        unsafe { ptr::copy_nonoverlapping(book.as_ptr(), place, book.len()) };
+        // SAFETY: the place has room for the bytes and may be written now.
+        unsafe { ptr::copy_nonoverlapping(bytes.as_ptr(), place, bytes.len()) };
         self.protect(READ);
         // SAFETY: the bytes were just written, can be read, and stay as they are meanwhile.
-        let lent = unsafe { std::slice::from_raw_parts(place, book.len()) };
-        let number = fitting::check_number(lent);
-        assert_eq!(lent, book);
-        number
+        let lent = unsafe { std::slice::from_raw_parts(place, bytes.len()) };
+        let made = make(lent);
+        assert_eq!(lent, bytes);
+        made
+    }
+
+    /// The number that the library gives for this book, lent.
+    fn check(&self, book: &[u8], at_start: bool) -> u64 {
+        self.lend(book, at_start, fitting::check_number)
+    }
+
+    /// Sixteen numbers at the very start, or else at the very end, of the middle pages, and what is
+    /// made while they may be written.
+    fn lend_domains(&self, at_start: bool, make: impl FnOnce(&mut [u32; 16])) -> [u32; 16] {
+        let room = self.pages * PAGE - size_of::<[u32; 16]>();
+        let place = self.middle().wrapping_add(if at_start { 0 } else { room });
+        self.protect(READ_AND_WRITE);
+        // SAFETY: the place has room for the numbers, on their boundary, and any bits are numbers;
+        // nothing else points there meanwhile.
+        let domains = unsafe { &mut *place.cast::<[u32; 16]>() };
+        domains.fill(BEFORE);
+        make(domains);
+        *domains
     }
 }
 
@@ -96,6 +118,46 @@ fn no_step_outside_of_seeded_books() {
         let book = Case::new(seed).bytes;
         for at_start in [true, false] {
             assert_eq!(memory.check(&book, at_start), reference::check(&book));
+        }
+    }
+}
+
+#[test]
+fn no_step_outside_of_seeded_sessions() {
+    let [books, lists, domains] = [5, 1, 1].map(Guarded::new);
+    for seed in 0..10_000 {
+        let Run { book, orders, .. } = Run::new(seed);
+        let mut expected = [BEFORE; 16];
+        let number = reference::probe(&book, &orders, &mut expected);
+        for at_start in [true, false] {
+            let written = domains.lend_domains(at_start, |domains| {
+                let probed = books.lend(&book, at_start, |book| {
+                    lists.lend(&orders, at_start, |orders| {
+                        probe::probe(book, orders, domains)
+                    })
+                });
+                assert_eq!(probed, number, "seed {seed}");
+            });
+            assert_eq!(written, expected, "seed {seed}");
+        }
+    }
+}
+
+/// Lists whose end is the page's, of every length.
+#[test]
+fn no_step_outside_of_any_list() {
+    let [books, lists] = [5, 1].map(Guarded::new);
+    let book = write(&harbour());
+    let orders = [MARK, narrow(2, 1)].concat().repeat(130);
+    for length in 0..=orders.len() {
+        for at_start in [true, false] {
+            let [mut probed, mut expected] = [[BEFORE; 16]; 2];
+            let list = &orders[..length];
+            let number = books.lend(&book, at_start, |book| {
+                lists.lend(list, at_start, |list| probe::probe(book, list, &mut probed))
+            });
+            assert_eq!(number, reference::probe(&book, list, &mut expected));
+            assert_eq!(probed, expected);
         }
     }
 }

@@ -1,5 +1,8 @@
 //! The examples of document 01 and each refusal, worked by hand.
 
+mod boxes;
+mod orders;
+
 use crate::{check, decode, head, Book, Sheet};
 
 /// "H has three columns: 0 width with V 3, 1 motor with V 2, 2 board with V 2." "Sheet 0 (width,

@@ -4,6 +4,7 @@ use native.Mathlib.Omega.{arith}
 use lib.ListN.{length}
 use borrow.Author.Needs.{needs}
 use Rattle.engine.proofs.Lists.{order-part}
+use Rattle.engine.proofs.Steps.{back-room, mark-room, narrow-inside, step-back, step-mark, step-narrow, step-other, step-refused}
 use Rattle.probe.specs.Probes.{Shown}
 use Rattle.probe.proofs.Shows.{shown-more, shown-none}
 use Rattle.probe.proofs.run.Statement.{statement}
@@ -27,38 +28,83 @@ mul-at c = search needs
 add-end : tie.Need-add-end Inv-loop μ-loop
 add-end c = search needs
 
-sub-refusal : tie.Need-sub-refusal Inv-loop μ-loop
-sub-refusal c = search needs
+sub-order : tie.Need-sub-order Inv-loop μ-loop
+sub-order c = search needs
 
-part-refusal-start : tie.Need-part-refusal-start Inv-loop μ-loop
-part-refusal-start c = search needs
+part-order-start : tie.Need-part-order-start Inv-loop μ-loop
+part-order-start c = search needs
 
-part-refusal-end : tie.Need-part-refusal-end Inv-loop μ-loop
-part-refusal-end c = search needs
-
-refusal-requires : tie.Need-refusal-requires Inv-loop μ-loop
-refusal-requires c κs = search needs
-
-sub-step : tie.Need-sub-step Inv-loop μ-loop
-sub-step c = search needs
-
-part-step-start : tie.Need-part-step-start Inv-loop μ-loop
-part-step-start c = search needs
-
-part-step-end : tie.Need-part-step-end Inv-loop μ-loop
-part-step-end c = search needs
-
-step-requires : tie.Need-step-requires Inv-loop μ-loop
-step-requires c κs = search needs
+part-order-end : tie.Need-part-order-end Inv-loop μ-loop
+part-order-end c = search needs
 
 add-i : tie.Need-add-i Inv-loop μ-loop
 add-i c = search needs
+
+refusal-requires : tie.Need-refusal-requires Inv-loop μ-loop
+refusal-requires c κs = search needs
 
 loop-less : tie.Need-loop-less Inv-loop μ-loop
 loop-less c = search needs
 
 loop-again : tie.Need-loop-again Inv-loop μ-loop
-loop-again c = (shown-more (order-part (c .before .before .before .before .before .before .before .before .before .args .orders .now) (c .before .before .before .before .before .loop .i) _ _ refl refl) (c .before .before .before .before .before .loop .inv .0) (c .before .before .refusal .ensures) (c .step .ensures), omega (arith, c .before .before .before .before .loop-test .taken))
+loop-again c = (shown-more (order-part (c .before .before .before .before .before .before .before .before .args .orders .now) (c .before .before .before .before .loop .i) _ _ refl refl) (c .before .before .before .before .loop .inv .0) (c .before .refusal .ensures) (step-refused _ _ _ (c .before .refusal .ensures) (c .if1 .taken)), omega (arith, c .before .before .before .loop-test .taken))
+
+shared-slice-read-if2 : tie.Need-shared-slice-read-if2 Inv-loop μ-loop
+shared-slice-read-if2 c = search needs
+
+shared-slice-read-wide : tie.Need-shared-slice-read-wide Inv-loop μ-loop
+shared-slice-read-wide c = search needs
+
+wide-requires : tie.Need-wide-requires Inv-loop μ-loop
+wide-requires c κs = search needs
+
+mask-of-requires : tie.Need-mask-of-requires Inv-loop μ-loop
+mask-of-requires c κs = search needs
+
+narrow-requires : tie.Need-narrow-requires Inv-loop μ-loop
+narrow-requires c κs = (c .before .before .before .before .before .before .before .before .before .before .before .before .before .pre .0, c .before .before .before .before .before .before .before .before .before .before .before .before .before .pre .1, rw (c .before .wide .ensures .0) (narrow-inside _ _ _ (c .before .before .before .before .before .before .refusal .ensures) (c .before .before .before .before .before .if1 .left) (record { stands = _; holds = c .before .before .before .before .before .before .before .before .before .loop .inv .0 .holds }) (c .before .before .before .if2 .taken)), record { stands = _; holds = c .before .before .before .before .before .before .before .before .before .loop .inv .0 .holds })
+
+loop-less-2 : tie.Need-loop-less-2 Inv-loop μ-loop
+loop-less-2 c = search needs
+
+loop-again-2 : tie.Need-loop-again-2 Inv-loop μ-loop
+loop-again-2 c = (shown-more (order-part (c .before .before .before .before .before .before .before .before .before .before .before .before .before .before .args .orders .now) (c .before .before .before .before .before .before .before .before .before .before .loop .i) _ _ refl refl) (c .before .before .before .before .before .before .before .before .before .before .loop .inv .0) (c .before .before .before .before .before .before .before .refusal .ensures) (step-narrow _ _ _ (c .before .before .before .before .before .before .before .refusal .ensures) (c .before .before .before .before .before .before .if1 .left) _ (c .before .before .before .before .if2 .taken) (c .before .before .wide .ensures .0) (c .before .mask-of .ensures) (c .narrow .ensures)), omega (arith, c .before .before .before .before .before .before .before .before .before .loop-test .taken))
+
+shared-slice-read-if3 : tie.Need-shared-slice-read-if3 Inv-loop μ-loop
+shared-slice-read-if3 c = search needs
+
+mark-requires : tie.Need-mark-requires Inv-loop μ-loop
+mark-requires c κs = mark-room _ _ _ (c .before .before .before .before .before .refusal .ensures) (c .before .before .before .before .if1 .left) (record { stands = _; holds = c .before .before .before .before .before .before .before .before .loop .inv .0 .holds }) (c .if3 .taken)
+
+loop-less-3 : tie.Need-loop-less-3 Inv-loop μ-loop
+loop-less-3 c = search needs
+
+loop-again-3 : tie.Need-loop-again-3 Inv-loop μ-loop
+loop-again-3 c = (shown-more (order-part (c .before .before .before .before .before .before .before .before .before .before .before .before .before .args .orders .now) (c .before .before .before .before .before .before .before .before .before .loop .i) _ _ refl refl) (c .before .before .before .before .before .before .before .before .before .loop .inv .0) (c .before .before .before .before .before .before .refusal .ensures) (step-mark _ _ _ (c .before .before .before .before .before .before .refusal .ensures) (c .before .before .before .before .before .if1 .left) _ (c .before .if3 .taken) (c .mark .ensures)), omega (arith, c .before .before .before .before .before .before .before .before .loop-test .taken))
+
+shared-slice-read-if4 : tie.Need-shared-slice-read-if4 Inv-loop μ-loop
+shared-slice-read-if4 c = search needs
+
+shared-slice-read-wide-2 : tie.Need-shared-slice-read-wide-2 Inv-loop μ-loop
+shared-slice-read-wide-2 c = search needs
+
+wide-requires-2 : tie.Need-wide-requires-2 Inv-loop μ-loop
+wide-requires-2 c κs = search needs
+
+back-requires : tie.Need-back-requires Inv-loop μ-loop
+back-requires c κs = rw (c .wide2 .ensures .0) (back-room _ _ _ (c .before .before .before .before .before .before .before .before .before .refusal .ensures) (c .before .before .before .before .before .before .before .before .if1 .left) (record { stands = _; holds = c .before .before .before .before .before .before .before .before .before .before .before .before .loop .inv .0 .holds }) (c .before .before .if4 .taken))
+
+loop-less-4 : tie.Need-loop-less-4 Inv-loop μ-loop
+loop-less-4 c = search needs
+
+loop-again-4 : tie.Need-loop-again-4 Inv-loop μ-loop
+loop-again-4 c = (shown-more (order-part (c .before .before .before .before .before .before .before .before .before .before .before .before .before .before .before .before .before .args .orders .now) (c .before .before .before .before .before .before .before .before .before .before .before .before .before .loop .i) _ _ refl refl) (c .before .before .before .before .before .before .before .before .before .before .before .before .before .loop .inv .0) (c .before .before .before .before .before .before .before .before .before .before .refusal .ensures) (step-back _ _ _ (c .before .before .before .before .before .before .before .before .before .before .refusal .ensures) (c .before .before .before .before .before .before .before .before .before .if1 .left) _ (c .before .before .before .if4 .taken) (c .before .wide2 .ensures .0) (c .back .ensures)), omega (arith, c .before .before .before .before .before .before .before .before .before .before .before .before .loop-test .taken))
+
+loop-less-5 : tie.Need-loop-less-5 Inv-loop μ-loop
+loop-less-5 c = search needs
+
+loop-again-5 : tie.Need-loop-again-5 Inv-loop μ-loop
+loop-again-5 c = (shown-more (order-part (c .before .before .before .before .before .before .before .before .before .before .before .before .before .before .args .orders .now) (c .before .before .before .before .before .before .before .before .before .before .loop .i) _ _ refl refl) (c .before .before .before .before .before .before .before .before .before .before .loop .inv .0) (c .before .before .before .before .before .before .before .refusal .ensures) (step-other _ _ _ (c .before .before .before .before .before .before .before .refusal .ensures) (c .before .before .before .before .before .before .if1 .left) (c .before .before .before .before .if2 .left) (c .before .before .if3 .left) (c .if4 .left)), omega (arith, c .before .before .before .before .before .before .before .before .before .loop-test .taken))
 
 returns : tie.Need-returns Inv-loop μ-loop
 returns c = let e : c .before .loop .i ≡ length (c .before .before .before .before .before .args .orders .now) / 8 = omega (arith, c .loop-test .left, c .before .loop .inv .1) in rw e at (c .before .loop .inv .0)
@@ -73,15 +119,30 @@ run-spec =
     loop-holds
     mul-at
     add-end
-    sub-refusal
-    part-refusal-start
-    part-refusal-end
-    refusal-requires
-    sub-step
-    part-step-start
-    part-step-end
-    step-requires
+    sub-order
+    part-order-start
+    part-order-end
     add-i
+    refusal-requires
     loop-less
     loop-again
+    shared-slice-read-if2
+    shared-slice-read-wide
+    wide-requires
+    mask-of-requires
+    narrow-requires
+    loop-less-2
+    loop-again-2
+    shared-slice-read-if3
+    mark-requires
+    loop-less-3
+    loop-again-3
+    shared-slice-read-if4
+    shared-slice-read-wide-2
+    wide-requires-2
+    back-requires
+    loop-less-4
+    loop-again-4
+    loop-less-5
+    loop-again-5
     returns)

@@ -1,0 +1,50 @@
+//! The settled domains, by striking what no row supports until nothing changes.
+
+use crate::orders::value_bit;
+use crate::{Book, Sheet};
+
+/// "Given allowed values for every column, the settled domains are the union, column by column, of
+/// all sound boxes within them. If there is none, every domain is empty and the session is dead."
+///
+/// A value that no row supports within the allowed ones is in no sound box within them, so it is
+/// struck. When nothing is left to strike and no column is empty, what remains is a sound box
+/// itself, and every other one within the allowed values lies in it.
+pub fn closure(book: &Book, allowed: &[u32]) -> Vec<u32> {
+    let mut domains = allowed.to_vec();
+    loop {
+        if domains.contains(&0) {
+            return vec![0; domains.len()];
+        }
+        let kept = supported(book, &domains);
+        if kept == domains {
+            return domains;
+        }
+        domains = kept;
+    }
+}
+
+/// The domains met, "for each sheet", with the values that are "carried by a row of that sheet
+/// lying in the box".
+fn supported(book: &Book, domains: &[u32]) -> Vec<u32> {
+    let mut kept = domains.to_vec();
+    for sheet in &book.sheets {
+        let mut carried = vec![0; sheet.columns.len()];
+        for row in &sheet.rows {
+            if lies_in(sheet, row, domains) {
+                for (i, &value) in row.iter().enumerate() {
+                    carried[i] |= value_bit(value);
+                }
+            }
+        }
+        for (i, &column) in sheet.columns.iter().enumerate() {
+            kept[usize::from(column)] &= carried[i];
+        }
+    }
+    kept
+}
+
+/// "A row lies in a box when each of its values is in its column's domain."
+pub(crate) fn lies_in(sheet: &Sheet, row: &[u8], domains: &[u32]) -> bool {
+    let mut cells = sheet.columns.iter().zip(row);
+    cells.all(|(&column, &value)| domains[usize::from(column)] & value_bit(value) != 0)
+}

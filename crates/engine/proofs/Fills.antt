@@ -1,15 +1,15 @@
 -- Laws of the opening: every value and every row, before propagation. Assumes nothing.
 -- ---- masks of places below a number
 use mathlib.Core.Path.{_∙_, _≡_, ap, refl, subst, sym}
-use mathlib.Core.Bool.{_&&_, false, false≢true, not, true}
+use mathlib.Core.Bool.{_&&_, false, false≢true, true}
 use mathlib.Core.Logic.{_↔_, _⊎_, inl, inr}
 use mathlib.Core.List.{List, []}
 use Prim.Native.Nat.{_%_, _*_, _+_, _-_, _/_, _<_, _^_, _≤_, suc, zero, ℕ}
 use native.Mathlib.Nat.{div-le-self, lt-of-le-of-lt, lt-of-lt-of-le}
 use native.Mathlib.Omega.{arith}
-use lib.Dec.{eqb, ltb}
+use lib.Dec.{ltb}
 use lib.ListN.{getD, length, length-replicate, length-set, replicate, set}
-use lib.Pow.{pow-mono, pow-pos, shr-shr}
+use lib.Pow.{pow-mono}
 use lib.Seq.{ext-getD, getD-set-other, getD-set-same}
 use borrow.Author.Tests.{le-ltb, lt-ltb, ltb-true}
 use Rattle.model.specs.Books.{closure, columnCount}
@@ -17,7 +17,7 @@ use Rattle.model.specs.Masks.{bit, maskOf}
 use Rattle.model.specs.Orders.{allowed, domains, permits}
 use Rattle.model.specs.States.{StateHolds, StateOf, ofSheet}
 use Rattle.model.specs.Stores.{has, storeOf}
-use Rattle.model.proofs.Masks.{bit-high, bit-maskOf, bit-maskOf-out, bit-of-zero, mask-ext, maskOf-lt, maskOf-same}
+use Rattle.model.proofs.Masks.{bit-maskOf, bit-maskOf-out, bit-of-zero, mask-ext, maskOf-lt, maskOf-same}
 use Rattle.model.proofs.Tests.{and-true, below, getD-tab, length-tab}
 use Rattle.book.specs.Decoding.{bookOf}
 use Rattle.book.specs.Head.{columnOf, columnsOf, rowsOf, sheetsOf, valuesOf}
@@ -25,32 +25,13 @@ use Rattle.book.specs.Verdicts.{Accepted}
 use Rattle.book.proofs.Decoded.{RightBook, accepted-right}
 use Rattle.book.proofs.Right.{column-inside, rows-most, sheets-most, values-range}
 use Rattle.words.specs.Sheets.{IndexOf, isSet, valueAt}
-use Rattle.words.proofs.Gathers.{complement}
 use Rattle.words.proofs.Indexes.{of-set-other, of-set-same, set-below}
+use Rattle.words.proofs.Ones.{ones-bit, ones-shifted}
 use Rattle.words.proofs.Places.{cell-value, valid-e}
 use Rattle.engine.specs.Openings.{FullDomains, FullIndex, FullRows, FullWord, FullWords, SixtyFour, placesBelow}
 use Rattle.engine.specs.Propagation.{Ready, Settled, arrays, storeIn}
 use Rattle.engine.proofs.Turns.{at-sheet, columns-count, count-at}
 use Rattle.engine.proofs.Worklists.{eight-sheets, zeros-at}
-
-shifted-bit : (v j m : ℕ) → bit v (m / 2 ^ j) ≡ bit (v + j) m
-unfolding bit
-shifted-bit v j m =
-    let e : j + v ≡ v + j = omega arith in
-    ap (λ (x : ℕ). eqb (x % 2) 1) (shr-shr m j v) ∙ ap (λ (i : ℕ). eqb (m / 2 ^ i % 2) 1) e
-
-ones-bit : (k v : ℕ) → v < k → bit v (2 ^ k - 1) ≡ true
-ones-bit k v l =
-    let e : 2 ^ k - 1 ≡ 2 ^ k - 1 - 0 = omega arith in
-    ap (bit v) e ∙ complement k 0 v (pow-pos k) l ∙ ap not (bit-of-zero v)
-
--- all places of k, shifted down to n of them
-pub ones-shifted : (k n v : ℕ) → n ≤ k → bit v ((2 ^ k - 1) / 2 ^ (k - n)) ≡ ltb v n
-ones-shifted k n v l = shifted-bit v (k - n) (2 ^ k - 1) ∙ go (below v n)
-  where
-    go : (v < n) ⊎ (n ≤ v) → bit (v + (k - n)) (2 ^ k - 1) ≡ ltb v n
-    go (inl p) = ones-bit k (v + (k - n)) (omega arith) ∙ sym (lt-ltb v n p)
-    go (inr p) = bit-high k (2 ^ k - 1) (v + (k - n)) (let z : 0 < 2 ^ k = pow-pos k in omega arith) (omega arith) ∙ sym (le-ltb v n p)
 
 pub places-none : placesBelow 0 ≡ 0
 unfolding placesBelow

@@ -24,12 +24,12 @@ use Rattle.model.proofs.Trails.{before-append, before-before, before-new, depth
 use Rattle.book.specs.Decoding.{bookOf}
 use Rattle.book.specs.Head.{columnsOf, valuesOf}
 use Rattle.book.specs.Verdicts.{Accepted}
-use Rattle.words.proofs.Gathers.{complement}
+use Rattle.words.proofs.Ones.{complement}
 use Rattle.engine.specs.Holds.{BackHolds, Chain, ChainHolds, Holds, MarkHolds, NarrowHolds, Refuses, SomeSession, Stepped, noState}
 use Rattle.engine.specs.Openings.{placesBelow}
-use Rattle.engine.specs.declared.state.State.{State}
-use Rattle.engine.specs.declared.session.Session.{Session}
 use Rattle.engine.specs.Sessions.{Narrows, StateIs}
+use Rattle.engine.specs.declared.session.Session.{Session}
+use Rattle.engine.specs.declared.state.State.{State}
 use Rattle.engine.proofs.Fills.{places-bit, places-lt}
 use Rattle.engine.proofs.Turns.{columns-count, count-at}
 use Rattle.engine.proofs.Worklists.{values-few}

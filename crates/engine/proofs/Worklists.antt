@@ -25,7 +25,7 @@ use Rattle.book.proofs.Faults.{firstBlock-later, firstBlock-more, firstBlock-ze
 use Rattle.book.proofs.Results.{right-length}
 use Rattle.book.proofs.Right.{columns-range, rows-most, sheets-most, values-range}
 use Rattle.words.specs.Sheets.{firstByte}
-use Rattle.words.proofs.Gathers.{complement}
+use Rattle.words.proofs.Ones.{complement}
 use Rattle.words.proofs.Walks.{shifted-one}
 use Rattle.engine.specs.Layouts.{ColumnsIn, LayoutOf}
 use Rattle.engine.specs.Worklists.{Added, WaitingFor, Woken, touches, waitsBit}

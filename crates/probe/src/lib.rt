@@ -48,7 +48,13 @@ fn run(book: &[u8], first: &[usize; 8], mask: &[u32; 8], orders: &[u8]) -> Ran
             continue;
         }
         if order[0] == 1 {
-            s = s.narrow(book, first, mask, book::fields::wide(order[1]), mask_of(order));
+            s = s.narrow(
+                book,
+                first,
+                mask,
+                book::fields::wide(order[1]),
+                mask_of(order),
+            );
             continue;
         }
         if order[0] == 2 {

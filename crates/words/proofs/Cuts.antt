@@ -4,7 +4,7 @@ use mathlib.Core.Path.{_∙_, _≡_, ap, refl, subst⁻¹, sym}
 use mathlib.Core.Bool.{Bool, _&&_, _||_, false, true}
 use mathlib.Core.Logic.{_⊎_, inl, inr}
 use mathlib.Core.List.{List}
-use Prim.Native.Nat.{_%_, _*_, _+_, _-_, _/_, _<_, _^_, _≤_, ℕ}
+use Prim.Native.Nat.{_%_, _*_, _+_, _-_, _/_, _<_, _^_, _≤_, suc, zero, ℕ}
 use native.Mathlib.Numerals.{add-one}
 use native.Mathlib.Omega.{arith}
 use lib.Arith.{lt-of-le-ne}
@@ -16,13 +16,13 @@ use Rattle.model.specs.Masks.{bit}
 use Rattle.model.specs.States.{ofSheet}
 use Rattle.model.specs.Stores.{has}
 use Rattle.model.specs.Tests.{allBelow}
-use Rattle.model.proofs.Masks.{bit-below, bit-of-zero}
+use Rattle.model.proofs.Masks.{bit-below, bit-of-zero, some-bit}
 use Rattle.model.proofs.Tests.{allBelow-last, and-assoc, and-l, and-true, below, either, or-false-l, or-false-r}
 use Rattle.book.specs.Head.{columnOf, rowsOf}
-use Rattle.words.specs.Cells.{Kept, Readable}
+use Rattle.words.specs.Cells.{Kept, Readable, nearPlace}
 use Rattle.words.specs.Sheets.{AtSheet, CutBy, IndexOf, Inside, OnlySheet, Sized, WordCut, firstByte, isSet, passesAt, passesBelow, swapped, valueAt, valueIn}
 use Rattle.words.proofs.Indexes.{Where, index-dropped, index-kept, left, length-swapped, names-other, neither, of-set-other, of-set-same, of-swapped, of-swapped-other, other, other-left, other-lt, other-rest, other-right, past-limit, right, set-below, where-is}
-use Rattle.words.proofs.Places.{cell-small, cell-there, eight}
+use Rattle.words.proofs.Places.{block-there, cell-small, cell-there, eight}
 
 pub row-word : (W : List ℕ) (s w k : ℕ) → k < 64 → isSet W s (64 * w + k) ≡ bit k (ofSheet W s w)
 unfolding isSet
@@ -39,6 +39,26 @@ word-readable {b} {first} {s} a W h w l f =
   where
     row : (k : ℕ) → bit k (ofSheet W s w) ≡ true → 64 * w + k < rowsOf b s
     row k e = let z = bit-below 64 (ofSheet W s w) k f e in h .at (64 * w + k) (omega arith) (row-word W s w k z ∙ e)
+
+-- the first 60 rows of a word that is not zero lie in a block of the sheet
+word-start : (w : ℕ) → w < 8 → 64 * w % 127 ≤ 67
+word-start zero l = omega arith
+word-start (suc zero) l = omega arith
+word-start (suc (suc zero)) l = omega arith
+word-start (suc (suc (suc zero))) l = omega arith
+word-start (suc (suc (suc (suc zero)))) l = omega arith
+word-start (suc (suc (suc (suc (suc zero))))) l = omega arith
+word-start (suc (suc (suc (suc (suc (suc zero)))))) l = omega arith
+word-start (suc (suc (suc (suc (suc (suc (suc zero))))))) l = omega arith
+word-start (suc (suc (suc (suc (suc (suc (suc (suc w)))))))) l = absurd (omega arith)
+
+pub word-there : {b : List ℕ} {first s : ℕ} → AtSheet b first s → (W : List ℕ) → Inside b s W → (w : ℕ) → w < 8 → ofSheet W s w < 2 ^ 64 → 0 < ofSheet W s w
+    → nearPlace first w + 239 < length b
+word-there {b} {first} {s} a W h w l f p =
+    let k = some-bit 64 (ofSheet W s w) f p in
+    let r : 64 * w + k .0 < rowsOf b s = h .at (64 * w + k .0) (omega (arith, k .1)) (row-word W s w (k .0) (k .1) ∙ k .2) in
+    let q : 64 * w < rowsOf b s = omega arith in
+    omega (arith, block-there a (64 * w) q, word-start w l)
 
 -- ---- what concerns one sheet alone
 pub only-same : {s : ℕ} {W X N : List ℕ} → OnlySheet s W X N W X N

@@ -4,38 +4,22 @@ use mathlib.Core.Path.{_∙_, _≡_, ap, sym}
 use mathlib.Core.Bool.{Bool, _||_, false, false≢true, not, true}
 use mathlib.Core.Logic.{_⊎_, inl, inr}
 use mathlib.Core.List.{List}
-use Prim.Native.Nat.{_%_, _*_, _+_, _-_, _/_, _<_, _^_, _≤_, suc, zero, ℕ}
-use native.Mathlib.Nat.{pow-succ'}
+use Prim.Native.Nat.{_%_, _*_, _+_, _-_, _/_, _<_, _^_, _≤_, ℕ}
 use native.Mathlib.Omega.{arith}
 use lib.Bits.{bitAnd, bitOr}
 use lib.Dec.{eqb}
 use lib.ListN.{getD}
-use borrow.Author.Tests.{eq-eqb, eqb-true, ne-eqb}
+use borrow.Author.Tests.{eqb-true}
 use Rattle.model.specs.Masks.{bit}
 use Rattle.model.specs.States.{ofSheet}
-use Rattle.model.proofs.Masks.{bit-and, bit-below, bit-of-zero, bit-or, bit-suc, bit-zero}
+use Rattle.model.proofs.Masks.{bit-and, bit-below, bit-of-zero, bit-or}
 use Rattle.model.proofs.Tests.{and-i, below, either, or-false-l, or-false-r}
 use Rattle.words.specs.Cells.{Covered, Gathered, cellAt, fourOf}
 use Rattle.words.specs.Sheets.{AtSheet, Carries, IndexOf, Sized, Supported, isSet, valueAt}
 use Rattle.words.proofs.Cuts.{row-word}
 use Rattle.words.proofs.Indexes.{past-limit}
+use Rattle.words.proofs.Ones.{complement}
 use Rattle.words.proofs.Walks.{four-all}
-
-pub complement : (k y v : ℕ) → y < 2 ^ k → v < k → bit v (2 ^ k - 1 - y) ≡ not (bit v y)
-complement zero y v l h = absurd (omega arith)
-complement (suc k) y zero l h =
-    bit-zero (2 ^ suc k - 1 - y) ∙ digit (y % 2) ((2 ^ suc k - 1 - y) % 2) (omega (arith, pow-succ' 2 k)) (omega arith) ∙ ap not (sym (bit-zero y))
-  where
-    digit : (d e : ℕ) → d + e ≡ 1 → d < 2 → eqb e 1 ≡ not (eqb d 1)
-    digit zero e p q = eq-eqb e 1 (omega arith)
-    digit (suc zero) e p q = ne-eqb e 1 (λ z. omega arith)
-    digit (suc (suc d)) e p q = absurd (omega arith)
-complement (suc k) y (suc v) l h =
-    let e : (2 ^ suc k - 1 - y) / 2 ≡ 2 ^ k - 1 - y / 2 = omega (arith, pow-succ' 2 k) in
-    bit-suc v (2 ^ suc k - 1 - y)
-    ∙ ap (bit v) e
-    ∙ complement k (y / 2) v (omega (arith, pow-succ' 2 k)) (omega arith)
-    ∙ ap not (sym (bit-suc v y))
 
 -- of x nothing is outside y
 none-outside : (x y : ℕ) → x < 2 ^ 32 → y < 2 ^ 32 → ((v : ℕ) → bit v (bitAnd x (4294967295 - y)) ≡ false) → (v : ℕ) → bit v x ≡ true → bit v y ≡ true

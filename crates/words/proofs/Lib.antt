@@ -1,3 +1,4 @@
+pub mod Ones
 pub mod Walks
 pub mod Places
 pub mod Indexes

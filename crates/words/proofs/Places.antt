@@ -3,7 +3,7 @@ use mathlib.Core.Path.{_∙_, _≡_, ap, refl, sym}
 use mathlib.Core.Bool.{Bool, _&&_, true}
 use mathlib.Core.Logic.{_⊎_, inl, inr}
 use mathlib.Core.List.{List, List·Memᴰ, []}
-use Prim.Native.Nat.{_+_, _<_, _≤_, suc, zero, ℕ}
+use Prim.Native.Nat.{_*_, _+_, _/_, _<_, _≤_, suc, zero, ℕ}
 use native.Mathlib.Omega.{arith}
 use lib.Dec.{ltb}
 use lib.ListN.{getD, length}
@@ -17,8 +17,9 @@ use Rattle.model.proofs.Tests.{allBelow-e, allBelow-i, allBelow-same, and-i, an
 use Rattle.book.specs.Decoding.{bookOf, rowOf, sheetOf}
 use Rattle.book.specs.Fields.{byteAt}
 use Rattle.book.specs.Head.{columnOf, rowsOf, sheetsOf, valuesOf, widthOf}
-use Rattle.book.specs.Rows.{placeBound, rowPlace}
+use Rattle.book.specs.Rows.{blocksNeeded, blocksOf, placeBound, rowPlace}
 use Rattle.book.proofs.Decoded.{RightBook, accepted-right, byte-below, right-formed, rises, row-inside, value-below}
+use Rattle.book.proofs.Faults.{firstBlock-later}
 use Rattle.book.proofs.Results.{right-length}
 use Rattle.book.proofs.Right.{column-inside, columns-range, rows-most, sheets-most, values-range, width-range}
 use Rattle.words.specs.Cells.{cellAt, cellPlace}
@@ -59,6 +60,12 @@ module _ {b : List ℕ} {first s : ℕ} (a : AtSheet b first s) where
 
   pub cell-there : (r : ℕ) → r < rowsOf b s → cellPlace first r 3 < length b
   cell-there r l = omega (arith, same-place r 3, row-inside b right s (a .one) r l)
+
+  -- the whole block of a row is there
+  pub block-there : (r : ℕ) → r < rowsOf b s → first + 512 * (r / 127) + 512 ≤ length b
+  unfolding blocksOf blocksNeeded
+  block-there r l =
+      omega (arith, a .begins, right-length b (right .length-right), right .blocks, firstBlock-later b s (sheetsOf b) (a .one))
 
   pub cell-bound : (r j : ℕ) → r < rowsOf b s → j < 4 → cellAt b first r j < placeBound b s j
   cell-bound r j l p = rw (← same-place r j) (byte-below b right s (a .one) r j l p)

@@ -1,9 +1,10 @@
 -- The rows of one word, where they stand in the file, and what the two passes make of them.
 use mathlib.Core.Path.{_≡_}
-use mathlib.Core.Bool.{_&&_, true}
+use mathlib.Core.Bool.{Bool, _&&_, not, true}
 use mathlib.Core.Logic.{_⊎_}
 use mathlib.Core.List.{List, [], _∷_}
-use Prim.Native.Nat.{_*_, _+_, _/_, _<_, ℕ}
+use Prim.Native.Nat.{_%_, _*_, _+_, _/_, _<_, ℕ}
+use lib.Dec.{ltb}
 use lib.ListN.{getD, length}
 use Rattle.model.specs.Masks.{bit}
 use Rattle.book.specs.Fields.{byteAt}
@@ -21,20 +22,69 @@ pub record Readable (b : List ℕ) (first from word : ℕ) : Type 0 where
   pub there : (k : ℕ) → bit k word ≡ true → cellPlace first (from + k) 3 < length b
   pub value : (k j : ℕ) → bit k word ≡ true → j < 4 → cellAt b first (from + k) j < 32
 
--- pass 1: r is the word cut to the rows whose value at place j is in d
+-- ---- pass 1
+-- r is the word cut to the rows whose value at place j is in d
 pub record Kept (b : List ℕ) (first from j d word r : ℕ) : Type 0 where
   pub at : (k : ℕ) → bit k r ≡ (bit k word && bit (cellAt b first (from + k) j) d)
 
+-- where row 0 of word w stands; the first 60 rows of a word stand in one block, every 4 bytes from there
+abbrev pub nearPlace : ℕ → ℕ → ℕ
+nearPlace first w = first + 4 * (64 * w + 64 * w / 127)
+
+-- the same of rows whose bytes stand at `base` and every 4 from there
+pub record NearReadable (b : List ℕ) (base word : ℕ) : Type 0 where
+  pub there : (k : ℕ) → bit k word ≡ true → base + 4 * k < length b
+  pub value : (k : ℕ) → bit k word ≡ true → byteAt b (base + 4 * k) < 32
+  pub few : (k : ℕ) → bit k word ≡ true → k < 60
+
+pub record KeptNear (b : List ℕ) (base d word r : ℕ) : Type 0 where
+  pub at : (k : ℕ) → bit k r ≡ (bit k word && bit (byteAt b (base + 4 * k)) d)
+
+-- all 60 rows, set or not, by the last five bits of their bytes
+pub record AllNear (b : List ℕ) (base d r : ℕ) : Type 0 where
+  pub at : (k : ℕ) → k < 60 → bit k r ≡ bit (byteAt b (base + 4 * k) % 32) d
+
+-- ---- pass 2
 -- a set for each of the four places
 abbrev pub fourOf : ℕ → ℕ → ℕ → ℕ → List ℕ
 fourOf w x y z = w ∷ x ∷ y ∷ z ∷ []
 
--- pass 2: the sets g are the sets f and the values of the word's rows
-pub record Gathered (b : List ℕ) (first from word : ℕ) (f g : List ℕ) : Type 0 where
+-- the sets g are the sets f and the values of the rows that pass; `cell k j` is the value of row k at place j
+pub record GatheredOf (cell : ℕ → ℕ → ℕ) (passes : ℕ → Bool) (f g : List ℕ) : Type 0 where
   pub old : (j v : ℕ) → j < 4 → bit v (getD f j 0) ≡ true → bit v (getD g j 0) ≡ true
-  pub new : (j k : ℕ) → j < 4 → bit k word ≡ true → bit (cellAt b first (from + k) j) (getD g j 0) ≡ true
-  pub sound : (j v : ℕ) → j < 4 → bit v (getD g j 0) ≡ true
-      → (bit v (getD f j 0) ≡ true) ⊎ ((k : ℕ) × (bit k word ≡ true) × (cellAt b first (from + k) j ≡ v))
+  pub new : (j k : ℕ) → j < 4 → passes k ≡ true → bit (cell k j) (getD g j 0) ≡ true
+  pub sound : (j v : ℕ) → j < 4 → bit v (getD g j 0) ≡ true → (bit v (getD f j 0) ≡ true) ⊎ ((k : ℕ) × (passes k ≡ true) × (cell k j ≡ v))
+
+-- the rows of a word
+abbrev pub Gathered : List ℕ → ℕ → ℕ → ℕ → List ℕ → List ℕ → Type 0
+Gathered b first from word f g = GatheredOf (λ k j. cellAt b first (from + k) j) (λ k. bit k word) f g
+
+-- the same of rows that stand at `base` and every 4 bytes from there
+abbrev pub GatheredNear : List ℕ → ℕ → ℕ → List ℕ → List ℕ → Type 0
+GatheredNear b base word f g = GatheredOf (λ k j. byteAt b (base + 4 * k + j)) (λ k. bit k word) f g
+
+-- the first n of them
+abbrev pub GatheredRun : List ℕ → ℕ → ℕ → List ℕ → List ℕ → Type 0
+GatheredRun b base n f g = GatheredOf (λ k j. byteAt b (base + 4 * k + j)) (λ k. ltb k n) f g
+
+-- the four bytes of a row are there, and are values
+pub record RowThere (b : List ℕ) (at : ℕ) : Type 0 where
+  pub there : at + 3 < length b
+  pub value : (j : ℕ) → j < 4 → byteAt b (at + j) < 32
+
+pub record NearRows (b : List ℕ) (base word : ℕ) : Type 0 where
+  pub at : (k : ℕ) → bit k word ≡ true → RowThere b (base + 4 * k)
+
+pub record RunReadable (b : List ℕ) (base n : ℕ) : Type 0 where
+  pub at : (k : ℕ) → k < n → RowThere b (base + 4 * k)
+
+-- the first n rows of the word are set
+pub record RunOf (word n : ℕ) : Type 0 where
+  pub at : (k : ℕ) → k < n → bit k word ≡ true
+
+-- r is the word without its first n rows
+pub record PastRun (word n r : ℕ) : Type 0 where
+  pub at : (k : ℕ) → bit k r ≡ (bit k word && not (ltb k n))
 
 -- the sets y have every value of the sets x
 pub record Covered (x y : List ℕ) : Type 0 where

@@ -1,24 +1,68 @@
 // The rows of one word: 64 rows of a sheet, of which those whose bit is set are looked at.
 //
-//     word    bit 0       bit 1       ..    bit 63
-//     row     from        from + 1    ..    from + 63       the byte of place j of row r is the file's byte first + 4 (r + r / 127) + j
+//     word w    bit 0    bit 1       ..    bit 63
+//     row       64 w     64 w + 1    ..    64 w + 63       row r begins at the file's byte first + 4 (r + r / 127)
+//
+// A block ends after 127 rows, with 4 bytes more. No word has its first 60 rows in two blocks, so these stand at base, base + 4, .. , and
+// only the last four have to be found by division.
 use crate::bits::*;
 ghost use mathlib.Core.Path.{_≡_};
-ghost use Prim.Native.Nat.{_+_, _*_, _/_, _^_, _<_, _≤_};
+ghost use Prim.Native.Nat.{_+_, _*_, _/_, _%_, _^_, _<_, _≤_};
 ghost use lib.Bits.{bitOr};
 ghost use lib.ListN.{length};
-ghost use Rattle.words.specs.Cells.{cellPlace, cellAt, Readable, Kept, fourOf, Gathered};
+ghost use Rattle.book.specs.Fields.{byteAt};
+ghost use Rattle.words.specs.Cells.{nearPlace, Readable, Kept, KeptNear, NearReadable, AllNear, fourOf, RowThere, NearRows, RunReadable, RunOf, PastRun, Gathered, GatheredNear, GatheredRun};
 
-// The byte of place j of row r of the sheet whose rows begin at byte `first`.
-pub fn cell(book: &[u8], first: usize, r: usize, j: usize) -> u32
-    requires { ⌜ cellPlace first r j < length (now book) ⌝ }
-    ensures { λ x. ⌜ x ≡ cellAt (now (book .entry)) first r j ⌝ }
+// ---- pass 1: the rows whose value at a place is in d
+
+// Rows that are set, one by one. Their bytes stand at `base` and every 4 from there.
+fn kept_near_set(book: &[u8], base: usize, d: u32, word: u64) -> u64
+    requires { ⌜ NearReadable (now book) base word ⌝ }
+    ensures { λ r. ⌜ KeptNear (now (book .entry)) base d word r ⌝ }
 {
-    book::fields::wide32(book[first + 4 * (r + r / 127) + j])
+    let mut left = word;
+    let mut keep: u64 = 0;
+    while left != 0 {
+        let i = lowest(left);
+        let v = book::fields::wide32(book[base + 4 * (i as usize)]);
+        keep = keep | (has(d, v) << i);
+        left = without_lowest(left);
+    }
+    keep
 }
 
-// Pass 1 over a word: its rows whose value at place j is in d.
-pub fn kept(book: &[u8], first: usize, from: usize, j: usize, d: u32, word: u64) -> u64
+// All 60 rows, set or not, with no test.
+fn kept_near_all(book: &[u8], base: usize, d: u32) -> u64
+    requires { ⌜ base + 236 < length (now book) ⌝ }
+    ensures { λ r. ⌜ AllNear (now (book .entry)) base d r ⌝ }
+{
+    let mut keep: u64 = 0;
+    let mut k: usize = 60;
+    while 0 < k {
+        k -= 1;
+        keep = keep + keep + has(d, book::fields::wide32(book[base + 4 * k]) % 32);
+    }
+    keep
+}
+
+// Whether it is quicker to look at all rows than at those that are set: either gives the same.
+fn many(word: u64) -> bool {
+    20 < u64::count_ones(word)
+}
+
+// The first 60 rows.
+fn kept_near(book: &[u8], base: usize, d: u32, word: u64) -> u64
+    requires { ⌜ NearReadable (now book) base word × (base + 236 < length (now book)) ⌝ }
+    ensures { λ r. ⌜ KeptNear (now (book .entry)) base d word r ⌝ }
+{
+    if many(word) {
+        return kept_near_all(book, base, d) & word;
+    }
+    kept_near_set(book, base, d, word)
+}
+
+// Rows anywhere.
+fn kept_far(book: &[u8], first: usize, from: usize, j: usize, d: u32, word: u64) -> u64
     requires { ⌜ (from ≤ 448) × (j < 4) × Readable (now book) first from word ⌝ }
     ensures { λ r. ⌜ Kept (now (book .entry)) first from j d word r ⌝ }
 {
@@ -26,14 +70,32 @@ pub fn kept(book: &[u8], first: usize, from: usize, j: usize, d: u32, word: u64)
     let mut keep: u64 = 0;
     while left != 0 {
         let i = lowest(left);
-        let v = cell(book, first, from + (i as usize), j);
+        let r = from + (i as usize);
+        let v = book::fields::wide32(book[first + 4 * (r + r / 127) + j]);
         keep = keep | (has(d, v) << i);
         left = without_lowest(left);
     }
     keep
 }
 
-// A set of values for each of the four places of a row.
+// Pass 1 over word w.
+pub fn kept(book: &[u8], first: usize, w: usize, j: usize, d: u32, word: u64) -> u64
+    requires { ⌜ (w < 8) × (j < 4) × Readable (now book) first (64 * w) word × (nearPlace first w + 239 < length (now book)) ⌝ }
+    ensures { λ r. ⌜ Kept (now (book .entry)) first (64 * w) j d word r ⌝ }
+{
+    let from = 64 * w;
+    let base = first + 4 * (from + from / 127);
+    let near = word & 1152921504606846975;
+    let keep = kept_near(book, base + j, d, near);
+    if near == word {
+        return keep;
+    }
+    keep | kept_far(book, first, from, j, d, word & !1152921504606846975)
+}
+
+// ---- pass 2: the values at each of the four places
+
+// A set of values for each place.
 pub struct Four {
     pub a: u32,
     pub b: u32,
@@ -41,21 +103,67 @@ pub struct Four {
     pub d: u32,
 }
 
-// The values of row r, added to a set for each place.
-fn with_row(book: &[u8], first: usize, r: usize, f: Four) -> Four
-    requires { ⌜ (cellPlace first r 3 < length (now book)) × (cellAt (now book) first r 0 < 32) × (cellAt (now book) first r 1 < 32) × (cellAt (now book) first r 2 < 32) × (cellAt (now book) first r 3 < 32) ⌝ }
-    ensures { λ g. ⌜ (g .a ≡ bitOr (f .a) (2 ^ cellAt (now (book .entry)) first r 0)) × (g .b ≡ bitOr (f .b) (2 ^ cellAt (now (book .entry)) first r 1)) × (g .c ≡ bitOr (f .c) (2 ^ cellAt (now (book .entry)) first r 2)) × (g .d ≡ bitOr (f .d) (2 ^ cellAt (now (book .entry)) first r 3)) ⌝ }
+// The values of the row at byte `at`, added to the sets.
+fn with_row(book: &[u8], at: usize, f: Four) -> Four
+    requires { ⌜ RowThere (now book) at ⌝ }
+    ensures { λ g. ⌜ (g .a ≡ bitOr (f .a) (2 ^ byteAt (now (book .entry)) (at + 0))) × (g .b ≡ bitOr (f .b) (2 ^ byteAt (now (book .entry)) (at + 1))) × (g .c ≡ bitOr (f .c) (2 ^ byteAt (now (book .entry)) (at + 2))) × (g .d ≡ bitOr (f .d) (2 ^ byteAt (now (book .entry)) (at + 3))) ⌝ }
 {
     Four {
-        a: f.a | only(cell(book, first, r, 0)),
-        b: f.b | only(cell(book, first, r, 1)),
-        c: f.c | only(cell(book, first, r, 2)),
-        d: f.d | only(cell(book, first, r, 3)),
+        a: f.a | only(book::fields::wide32(book[at])),
+        b: f.b | only(book::fields::wide32(book[at + 1])),
+        c: f.c | only(book::fields::wide32(book[at + 2])),
+        d: f.d | only(book::fields::wide32(book[at + 3])),
     }
 }
 
-// Pass 2 over a word: the values of its rows, added to a set for each place.
-pub fn gathered(book: &[u8], first: usize, from: usize, word: u64, f: Four) -> Four
+// How many rows of a word are set from the first on without a gap.
+fn run_of(word: u64) -> usize
+    requires { ⌜ word < 1152921504606846976 ⌝ }
+    ensures { λ n. ⌜ (n ≤ 60) × RunOf word n ⌝ }
+{
+    u64::trailing_zeros(!word) as usize
+}
+
+// The rows of a word from row n on.
+fn past_run(word: u64, n: usize) -> u64
+    requires { ⌜ (0 < n) × (n ≤ 60) ⌝ }
+    ensures { λ r. ⌜ PastRun word n r ⌝ }
+{
+    let all: u64 = 18446744073709551615;
+    word & !(all >> (64 - n))
+}
+
+// The first n rows of a word, all of them set.
+fn gathered_run(book: &[u8], base: usize, n: usize, f: Four) -> Four
+    requires { ⌜ (n ≤ 60) × RunReadable (now book) base n ⌝ }
+    ensures { λ g. ⌜ GatheredRun (now (book .entry)) base n (fourOf (f .a) (f .b) (f .c) (f .d)) (fourOf (g .a) (g .b) (g .c) (g .d)) ⌝ }
+{
+    let mut g = f;
+    let mut k: usize = 0;
+    while k < n {
+        g = with_row(book, base + 4 * k, g);
+        k += 1;
+    }
+    g
+}
+
+// Rows that are set, one by one.
+fn gathered_near_set(book: &[u8], base: usize, word: u64, f: Four) -> Four
+    requires { ⌜ NearRows (now book) base word ⌝ }
+    ensures { λ g. ⌜ GatheredNear (now (book .entry)) base word (fourOf (f .a) (f .b) (f .c) (f .d)) (fourOf (g .a) (g .b) (g .c) (g .d)) ⌝ }
+{
+    let mut left = word;
+    let mut g = f;
+    while left != 0 {
+        let i = lowest(left);
+        g = with_row(book, base + 4 * (i as usize), g);
+        left = without_lowest(left);
+    }
+    g
+}
+
+// Rows anywhere.
+fn gathered_far(book: &[u8], first: usize, from: usize, word: u64, f: Four) -> Four
     requires { ⌜ (from ≤ 448) × Readable (now book) first from word ⌝ }
     ensures { λ g. ⌜ Gathered (now (book .entry)) first from word (fourOf (f .a) (f .b) (f .c) (f .d)) (fourOf (g .a) (g .b) (g .c) (g .d)) ⌝ }
 {
@@ -63,8 +171,40 @@ pub fn gathered(book: &[u8], first: usize, from: usize, word: u64, f: Four) -> F
     let mut g = f;
     while left != 0 {
         let i = lowest(left);
-        g = with_row(book, first, from + (i as usize), g);
+        let r = from + (i as usize);
+        g = with_row(book, first + 4 * (r + r / 127), g);
         left = without_lowest(left);
     }
     g
+}
+
+// The first 60 rows: those that are set from the first on without a gap, and then the others.
+fn gathered_near(book: &[u8], base: usize, word: u64, f: Four) -> Four
+    requires { ⌜ NearRows (now book) base word × (word < 1152921504606846976) ⌝ }
+    ensures { λ g. ⌜ GatheredNear (now (book .entry)) base word (fourOf (f .a) (f .b) (f .c) (f .d)) (fourOf (g .a) (g .b) (g .c) (g .d)) ⌝ }
+{
+    let n = run_of(word);
+    if n < 24 {
+        return gathered_near_set(book, base, word, f);
+    }
+    gathered_near_set(
+        book,
+        base,
+        past_run(word, n),
+        gathered_run(book, base, n, f),
+    )
+}
+
+// Pass 2 over word w.
+pub fn gathered(book: &[u8], first: usize, w: usize, word: u64, f: Four) -> Four
+    requires { ⌜ (w < 8) × Readable (now book) first (64 * w) word × (nearPlace first w + 239 < length (now book)) ⌝ }
+    ensures { λ g. ⌜ Gathered (now (book .entry)) first (64 * w) word (fourOf (f .a) (f .b) (f .c) (f .d)) (fourOf (g .a) (g .b) (g .c) (g .d)) ⌝ }
+{
+    let from = 64 * w;
+    let near = word & 1152921504606846975;
+    let g = gathered_near(book, first + 4 * (from + from / 127), near, f);
+    if near == word {
+        return g;
+    }
+    gathered_far(book, first, from, word & !1152921504606846975, g)
 }

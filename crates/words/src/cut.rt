@@ -26,7 +26,7 @@ fn cut_word(
     let w = word_number(index, s, p);
     let at = 8 * s + w;
     let word = live[at];
-    let keep = kept(book, first, 64 * w, j, d, word);
+    let keep = kept(book, first, w, j, d, word);
     if keep == word {
         return false;
     }

@@ -37,7 +37,7 @@ pub fn carried(
     let mut p: usize = 0;
     while p < n {
         let w = word_number(index, s, p);
-        seen = gathered(book, first, 64 * w, live[8 * s + w], seen);
+        seen = gathered(book, first, w, live[8 * s + w], seen);
         if covered(x, seen) {
             return seen;
         }

@@ -18,8 +18,8 @@ pub fn nonzero_words(limit: &[u8; 8], s: usize) -> usize
 
 // The word number at position p of the index of sheet s.
 pub fn word_number(index: &[u8; 64], s: usize, p: usize) -> usize
-    requires { ⌜ (s < 8) × (p < 8) ⌝ }
-    ensures { λ r. ⌜ r ≡ ofSheet (now (index .entry)) s p ⌝ }
+    requires { ⌜ (s < 8) × (p < 8) × (ofSheet (now index) s p < 8) ⌝ }
+    ensures { λ r. ⌜ (r ≡ ofSheet (now (index .entry)) s p) × (r < 8) ⌝ }
 {
     book::fields::wide(index[8 * s + p])
 }

@@ -3,7 +3,7 @@ use Prim.Native.Nat.{_-_, _<_, _≤_}
 use native.Mathlib.Omega.{arith}
 use borrow.Author.Needs.{needs}
 use Rattle.words.specs.Cells.{fourOf}
-use Rattle.words.proofs.Cuts.{word-readable}
+use Rattle.words.proofs.Cuts.{word-readable, word-there}
 use Rattle.words.proofs.Gathers.{Supporting, supporting-all, supporting-covered, supporting-more, supporting-start}
 use Rattle.words.proofs.Places.{eight}
 use Rattle.words.proofs.gather.carried.Statement.{statement}
@@ -22,31 +22,28 @@ loop-holds : tie.Need-loop-holds Inv-loop μ-loop
 loop-holds c = (supporting-start _ _ _ _, omega arith)
 
 word-number-requires : tie.Need-word-number-requires Inv-loop μ-loop
-word-number-requires c κs = (eight (c .before .before .before .before .pre .0), omega (arith, c .before .before .before .before .pre .2 .few, c .before .before .nonzero-words .ensures .0, c .loop-test .taken))
+word-number-requires c κs = let l : c .before .loop .p < 8 = omega (arith, c .before .before .before .before .pre .2 .few, c .before .before .nonzero-words .ensures .0, c .loop-test .taken) in (eight (c .before .before .before .before .pre .0), l, c .before .before .before .before .pre .2 .each _ l)
 
 mul-gathered : tie.Need-mul-gathered Inv-loop μ-loop
-mul-gathered c = let w : c .word-number .result < 8 = rw (c .word-number .ensures) (c .before .before .before .before .before .pre .2 .each _ (omega (arith, c .before .before .before .before .before .pre .2 .few, c .before .before .before .nonzero-words .ensures .0, c .before .loop-test .taken))) in search (needs, w)
-
-mul-gathered-2 : tie.Need-mul-gathered-2 Inv-loop μ-loop
-mul-gathered-2 c = search (needs, eight (c .before .before .before .before .before .pre .0))
+mul-gathered c = let q = eight (c .before .before .before .before .before .pre .0) in search (needs, q)
 
 add-gathered : tie.Need-add-gathered Inv-loop μ-loop
-add-gathered c = let w : c .word-number .result < 8 = rw (c .word-number .ensures) (c .before .before .before .before .before .pre .2 .each _ (omega (arith, c .before .before .before .before .before .pre .2 .few, c .before .before .before .nonzero-words .ensures .0, c .before .loop-test .taken))) in search (needs, eight (c .before .before .before .before .before .pre .0), w)
+add-gathered c = let q = eight (c .before .before .before .before .before .pre .0) in search (needs, q)
 
-mul-gathered-3 : tie.Need-mul-gathered-3 Inv-loop μ-loop
-mul-gathered-3 c = let w : c .word-number .result < 8 = rw (c .word-number .ensures) (c .before .before .before .before .before .pre .2 .each _ (omega (arith, c .before .before .before .before .before .pre .2 .few, c .before .before .before .nonzero-words .ensures .0, c .before .loop-test .taken))) in search (needs, eight (c .before .before .before .before .before .pre .0), w)
+mul-gathered-2 : tie.Need-mul-gathered-2 Inv-loop μ-loop
+mul-gathered-2 c = let q = eight (c .before .before .before .before .before .pre .0) in search (needs, q)
 
 element-copy-out-gathered : tie.Need-element-copy-out-gathered Inv-loop μ-loop
-element-copy-out-gathered c = let w : c .word-number .result < 8 = rw (c .word-number .ensures) (c .before .before .before .before .before .pre .2 .each _ (omega (arith, c .before .before .before .before .before .pre .2 .few, c .before .before .before .nonzero-words .ensures .0, c .before .loop-test .taken))) in omega (arith, eight (c .before .before .before .before .before .pre .0))
+element-copy-out-gathered c = let q = eight (c .before .before .before .before .before .pre .0) in omega (arith, c .word-number .ensures .1)
 
 gathered-requires : tie.Need-gathered-requires Inv-loop μ-loop
-gathered-requires c κs = let w : c .before .word-number .result < 8 = rw (c .before .word-number .ensures) (c .before .before .before .before .before .before .pre .2 .each _ (omega (arith, c .before .before .before .before .before .before .pre .2 .few, c .before .before .before .before .nonzero-words .ensures .0, c .before .before .loop-test .taken))) in (omega arith, word-readable (c .before .before .before .before .before .before .pre .0) _ (c .before .before .before .before .before .before .pre .1) _ w (c .before .before .before .before .before .before .pre .3 .bits _))
+gathered-requires c κs = let l : c .before .before .before .loop .p < 8 = omega (arith, c .before .before .before .before .before .before .pre .2 .few, c .before .before .before .before .nonzero-words .ensures .0, c .before .before .loop-test .taken) in (c .before .word-number .ensures .1, word-readable (c .before .before .before .before .before .before .pre .0) _ (c .before .before .before .before .before .before .pre .1) _ (c .before .word-number .ensures .1) (c .before .before .before .before .before .before .pre .3 .bits _), word-there (c .before .before .before .before .before .before .pre .0) _ (c .before .before .before .before .before .before .pre .1) _ (c .before .word-number .ensures .1) (c .before .before .before .before .before .before .pre .3 .bits _) (rw (c .before .word-number .ensures .0) (c .before .before .before .before .before .before .pre .2 .limit _ l .0 (omega (arith, c .before .before .before .before .nonzero-words .ensures .0, c .before .before .loop-test .taken)))))
 
 covered-requires : tie.Need-covered-requires Inv-loop μ-loop
 covered-requires c κs = search needs
 
 returns : tie.Need-returns Inv-loop μ-loop
-returns c = supporting-covered (c .before .before .before .before .before .before .before .before .before .pre .0) (c .before .before .before .before .before .before .before .before .before .pre .2) (c .before .before .before .before .before .before .before .before .before .pre .3) (supporting-more (c .before .before .before .before .before .before .before .before .before .pre .0) (c .before .before .before .before .before .before .before .before .before .pre .2) (c .before .before .before .before .before .before .before .before .before .pre .3) (omega (arith, c .before .before .before .before .before .before .before .nonzero-words .ensures .0, c .before .before .before .before .before .loop-test .taken)) (c .before .before .before .before .word-number .ensures) refl (c .before .before .before .before .before .before .loop .inv .0) (c .before .before .gathered .ensures)) (c .before .covered .ensures (c .if1 .taken))
+returns c = supporting-covered (c .before .before .before .before .before .before .before .before .before .pre .0) (c .before .before .before .before .before .before .before .before .before .pre .2) (c .before .before .before .before .before .before .before .before .before .pre .3) (supporting-more (c .before .before .before .before .before .before .before .before .before .pre .0) (c .before .before .before .before .before .before .before .before .before .pre .2) (c .before .before .before .before .before .before .before .before .before .pre .3) (omega (arith, c .before .before .before .before .before .before .before .nonzero-words .ensures .0, c .before .before .before .before .before .loop-test .taken)) (c .before .before .before .before .word-number .ensures .0) refl (c .before .before .before .before .before .before .loop .inv .0) (c .before .before .gathered .ensures)) (c .before .covered .ensures (c .if1 .taken))
 
 add-p : tie.Need-add-p Inv-loop μ-loop
 add-p c = search needs
@@ -55,7 +52,7 @@ loop-less : tie.Need-loop-less Inv-loop μ-loop
 loop-less c = search needs
 
 loop-again : tie.Need-loop-again Inv-loop μ-loop
-loop-again c = (supporting-more (c .before .before .before .before .before .before .before .before .before .pre .0) (c .before .before .before .before .before .before .before .before .before .pre .2) (c .before .before .before .before .before .before .before .before .before .pre .3) (omega (arith, c .before .before .before .before .before .before .before .nonzero-words .ensures .0, c .before .before .before .before .before .loop-test .taken)) (c .before .before .before .before .word-number .ensures) refl (c .before .before .before .before .before .before .loop .inv .0) (c .before .before .gathered .ensures), omega (arith, c .before .before .before .before .before .loop-test .taken))
+loop-again c = (supporting-more (c .before .before .before .before .before .before .before .before .before .pre .0) (c .before .before .before .before .before .before .before .before .before .pre .2) (c .before .before .before .before .before .before .before .before .before .pre .3) (omega (arith, c .before .before .before .before .before .before .before .nonzero-words .ensures .0, c .before .before .before .before .before .loop-test .taken)) (c .before .before .before .before .word-number .ensures .0) refl (c .before .before .before .before .before .before .loop .inv .0) (c .before .before .gathered .ensures), omega (arith, c .before .before .before .before .before .loop-test .taken))
 
 returns-2 : tie.Need-returns-2 Inv-loop μ-loop
 returns-2 c = supporting-all (c .before .before .before .before .pre .0) (c .before .before .before .before .pre .2) (c .before .before .before .before .pre .3) (omega (arith, c .before .before .nonzero-words .ensures .0, c .loop-test .left)) (c .before .loop .inv .0)
@@ -70,9 +67,8 @@ carried-spec =
     loop-holds
     word-number-requires
     mul-gathered
-    mul-gathered-2
     add-gathered
-    mul-gathered-3
+    mul-gathered-2
     element-copy-out-gathered
     gathered-requires
     covered-requires

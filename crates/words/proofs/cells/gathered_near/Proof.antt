@@ -1,0 +1,40 @@
+use mathlib.Core.Path.{_∙_, sym}
+use borrow.Author.Needs.{needs}
+use Rattle.model.specs.Masks.{bit}
+use Rattle.model.proofs.Tests.{and-l}
+use Rattle.words.proofs.Walks.{of-join, run-joined}
+use Rattle.words.proofs.cells.gathered_near.Statement.{statement}
+use Rattle.words.proofs.cells.gathered_near.Tie as tie
+
+run-of-requires : tie.Need-run-of-requires
+run-of-requires c κs = search needs
+
+gathered-near-set-requires : tie.Need-gathered-near-set-requires
+gathered-near-set-requires c κs = search needs
+
+returns : tie.Need-returns
+returns c = search needs
+
+past-run-requires : tie.Need-past-run-requires
+past-run-requires c κs = search needs
+
+gathered-run-requires : tie.Need-gathered-run-requires
+gathered-run-requires c κs = (c .before .before .run-of .ensures .0, record { at = λ k l. c .before .before .before .before .pre .0 .at k (c .before .before .run-of .ensures .1 .at k l) })
+
+gathered-near-set-requires-2 : tie.Need-gathered-near-set-requires-2
+gathered-near-set-requires-2 c κs = record { at = λ k e. c .before .before .before .before .before .pre .0 .at k (and-l (bit k (c .before .before .before .before .before .args .word)) _ (sym (c .before .past-run .ensures .at k) ∙ e)) }
+
+returns-2 : tie.Need-returns-2
+returns-2 c = of-join _ (run-joined (c .before .before .before .before .run-of .ensures .1) (c .before .before .past-run .ensures)) (c .before .gathered-run .ensures) (c .gathered-near-set2 .ensures)
+
+pub gathered-near-spec : {M : Type 1} → statement M
+gathered-near-spec =
+    tie.close
+    (tie.spec
+    run-of-requires
+    gathered-near-set-requires
+    returns
+    past-run-requires
+    gathered-run-requires
+    gathered-near-set-requires-2
+    returns-2)

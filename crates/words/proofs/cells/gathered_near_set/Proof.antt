@@ -1,0 +1,62 @@
+use mathlib.Core.Path.{_∙_, ap, subst⁻¹}
+use Prim.Native.Nat.{_*_, _+_, ℕ}
+use borrow.Author.Needs.{needs}
+use Rattle.model.specs.Masks.{Cleared}
+use Rattle.book.specs.Fields.{byteAt}
+use Rattle.words.specs.Cells.{GatheredOf, fourOf}
+use Rattle.words.proofs.Walks.{Part, of-none, of-row, of-same, part-cleared, passed, passed-end, passed-start, passed-turn, whole}
+use Rattle.words.proofs.cells.gathered_near_set.Statement.{statement}
+use Rattle.words.proofs.cells.gathered_near_set.Tie as tie
+
+abbrev Inv-loop : tie.InvT-loop
+Inv-loop book base word left₀ g₀ left g = GatheredOf (λ k j. byteAt book (base + 4 * k + j)) (passed word left) (fourOf (g₀ .a) (g₀ .b) (g₀ .c) (g₀ .d)) (fourOf (g .a) (g .b) (g .c) (g .d)) × Part left word
+
+abbrev μ-loop : tie.MeasureT-loop
+μ-loop book base word left₀ g₀ left g = left
+
+loop-holds : tie.Need-loop-holds Inv-loop μ-loop
+loop-holds c = (of-none _ _ (passed-start _), whole _)
+
+lowest-requires : tie.Need-lowest-requires Inv-loop μ-loop
+lowest-requires c κs = search needs
+
+cast-with-row : tie.Need-cast-with-row Inv-loop μ-loop
+cast-with-row c = search needs
+
+mul-with-row : tie.Need-mul-with-row Inv-loop μ-loop
+mul-with-row c = search needs
+
+add-with-row : tie.Need-add-with-row Inv-loop μ-loop
+add-with-row c = let e = c .before .before .loop .inv .1 .at _ (c .lowest .ensures .2) in let k = c .before .before .before .before .pre .at _ e .there in search (needs, k)
+
+with-row-requires : tie.Need-with-row-requires Inv-loop μ-loop
+with-row-requires c κs = let e = c .before .before .loop .inv .1 .at _ (c .lowest .ensures .2) in c .before .before .before .before .pre .at _ e
+
+without-lowest-requires : tie.Need-without-lowest-requires Inv-loop μ-loop
+without-lowest-requires c κs = search needs
+
+loop-less : tie.Need-loop-less Inv-loop μ-loop
+loop-less c = search needs
+
+loop-again : tie.Need-loop-again Inv-loop μ-loop
+loop-again c = let t = subst⁻¹ (λ (t : ℕ). Cleared (c .before .before .before .before .loop .left) (c .without-lowest .result) t) (c .before .before .lowest .ensures .0) (c .without-lowest .ensures .0) in (of-row _ _ _ _ _ _ _ _ _ _ (passed-turn (c .before .before .before .before .loop .inv .1) t) (c .before .before .before .before .loop .inv .0) (c .before .with-row .ensures .0) (c .before .with-row .ensures .1) (c .before .with-row .ensures .2) (c .before .with-row .ensures .3), part-cleared t (c .before .before .before .before .loop .inv .1))
+
+returns : tie.Need-returns Inv-loop μ-loop
+returns c = of-same _ (λ i. ap (λ (m : ℕ). passed (c .before .before .before .args .word) m i) (c .loop-test .left) ∙ passed-end (c .before .before .before .args .word) i) (c .before .loop .inv .0)
+
+pub gathered-near-set-spec : {M : Type 1} → statement M
+gathered-near-set-spec =
+    tie.close
+    (tie.spec
+    Inv-loop
+    μ-loop
+    loop-holds
+    lowest-requires
+    cast-with-row
+    mul-with-row
+    add-with-row
+    with-row-requires
+    without-lowest-requires
+    loop-less
+    loop-again
+    returns)

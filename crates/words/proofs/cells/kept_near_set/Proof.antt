@@ -1,0 +1,77 @@
+use mathlib.Core.Path.{subst⁻¹}
+use Prim.Native.Nat.{ℕ}
+use borrow.Author.Needs.{needs}
+use Rattle.model.specs.Masks.{Cleared}
+use Rattle.words.proofs.Walks.{Part, Walked, near-end, near-in, nearIn, part-cleared, walked-start, walked-turn, whole}
+use Rattle.words.proofs.cells.kept_near_set.Statement.{statement}
+use Rattle.words.proofs.cells.kept_near_set.Tie as tie
+
+abbrev Inv-loop : tie.InvT-loop
+Inv-loop book base d word left₀ keep₀ left keep = Walked (nearIn book base d) word left keep × Part left word
+
+abbrev μ-loop : tie.MeasureT-loop
+μ-loop book base d word left₀ keep₀ left keep = left
+
+loop-holds : tie.Need-loop-holds Inv-loop μ-loop
+loop-holds c = (walked-start _ _, whole _)
+
+lowest-requires : tie.Need-lowest-requires Inv-loop μ-loop
+lowest-requires c κs = search needs
+
+cast-wide32 : tie.Need-cast-wide32 Inv-loop μ-loop
+cast-wide32 c = search needs
+
+mul-wide32 : tie.Need-mul-wide32 Inv-loop μ-loop
+mul-wide32 c = search needs
+
+add-wide32 : tie.Need-add-wide32 Inv-loop μ-loop
+add-wide32 c = let e = c .before .before .loop .inv .1 .at _ (c .lowest .ensures .2) in let k = c .before .before .before .before .pre .there _ e in search (needs, k)
+
+shared-slice-read-wide32 : tie.Need-shared-slice-read-wide32 Inv-loop μ-loop
+shared-slice-read-wide32 c = let e = c .before .before .before .loop .inv .1 .at _ (c .before .lowest .ensures .2) in c .before .before .before .before .before .pre .there _ e
+
+wide32-requires : tie.Need-wide32-requires Inv-loop μ-loop
+wide32-requires c κs = search needs
+
+has-requires : tie.Need-has-requires Inv-loop μ-loop
+has-requires c κs = let e = c .before .before .before .before .loop .inv .1 .at _ (c .before .before .lowest .ensures .2) in rw (c .wide32 .ensures) (c .before .before .before .before .before .before .pre .value _ e)
+
+cast-keep : tie.Need-cast-keep Inv-loop μ-loop
+cast-keep c = search needs
+
+shl-keep : tie.Need-shl-keep Inv-loop μ-loop
+shl-keep c = search needs
+
+without-lowest-requires : tie.Need-without-lowest-requires Inv-loop μ-loop
+without-lowest-requires c κs = search needs
+
+loop-less : tie.Need-loop-less Inv-loop μ-loop
+loop-less c = search needs
+
+loop-again : tie.Need-loop-again Inv-loop μ-loop
+loop-again c = let t = subst⁻¹ (λ (t : ℕ). Cleared (c .before .before .before .before .before .before .loop .left) (c .without-lowest .result) t) (c .before .before .before .before .lowest .ensures .0) (c .without-lowest .ensures .0) in
+    (walked-turn (c .before .before .before .before .before .before .loop .inv .0) t (c .before .has .ensures .1) (c .before .before .before .before .lowest .ensures .1) (near-in _ _ _ _ _ _ (c .before .before .wide32 .ensures) (c .before .has .ensures .0)), part-cleared t (c .before .before .before .before .before .before .loop .inv .1))
+
+returns : tie.Need-returns Inv-loop μ-loop
+returns c = near-end (rw (c .loop-test .left) at (c .before .loop .inv .0))
+
+pub kept-near-set-spec : {M : Type 1} → statement M
+kept-near-set-spec =
+    tie.close
+    (tie.spec
+    Inv-loop
+    μ-loop
+    loop-holds
+    lowest-requires
+    cast-wide32
+    mul-wide32
+    add-wide32
+    shared-slice-read-wide32
+    wide32-requires
+    has-requires
+    cast-keep
+    shl-keep
+    without-lowest-requires
+    loop-less
+    loop-again
+    returns)

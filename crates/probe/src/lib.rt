@@ -28,7 +28,8 @@ fn wrong_list(orders: &[u8]) -> bool
     orders.len() % 8 != 0
 }
 
-// Every order run in turn, from the opening.
+// Every order run in turn, from the opening. A mark and a back are written out here, as `Session::mark` and `Session::back` have them: a
+// method that goes to a saved state whose number varies has all sixteen copied on its way in and out.
 fn run(book: &[u8], first: &[usize; 8], mask: &[u32; 8], orders: &[u8]) -> Ran
     requires { ⌜ Accepted (now book) × LayoutOf (now book) (now first) (now mask) × (length (now orders) ≤ 2048) ⌝ }
     ensures { λ r. ⌜ Shown (now (book .entry)) (now (orders .entry)) (length (now (orders .entry)) / 8) (r .last) (r .session) ⌝ }
@@ -58,11 +59,16 @@ fn run(book: &[u8], first: &[usize; 8], mask: &[u32; 8], orders: &[u8]) -> Ran
             continue;
         }
         if order[0] == 2 {
-            s = s.mark();
+            let st = s.now;
+            s.saved[depth] = st;
+            s.depth = depth + 1;
             continue;
         }
         if order[0] == 3 {
-            s = s.back(book::fields::wide(order[1]));
+            let m = book::fields::wide(order[1]);
+            let st = s.saved[m - 1];
+            s.now = st;
+            s.depth = m - 1;
             continue;
         }
     }

@@ -4,7 +4,7 @@ use native.Mathlib.Omega.{arith}
 use lib.ListN.{length}
 use borrow.Author.Needs.{needs}
 use Rattle.engine.proofs.Lists.{order-part}
-use Rattle.engine.proofs.Steps.{back-room, mark-room, narrow-inside, step-back, step-mark, step-narrow, step-other, step-refused}
+use Rattle.engine.proofs.Steps.{back-holds, back-room, mark-holds, mark-room, narrow-inside, step-back, step-mark, step-narrow, step-other, step-refused}
 use Rattle.probe.specs.Probes.{Shown}
 use Rattle.probe.proofs.Shows.{shown-more, shown-none}
 use Rattle.probe.proofs.run.Statement.{statement}
@@ -73,14 +73,20 @@ loop-again-2 c = (shown-more (order-part (c .before .before .before .before .bef
 shared-slice-read-if3 : tie.Need-shared-slice-read-if3 Inv-loop μ-loop
 shared-slice-read-if3 c = search needs
 
-mark-requires : tie.Need-mark-requires Inv-loop μ-loop
-mark-requires c κs = mark-room _ _ _ (c .before .before .before .before .before .refusal .ensures) (c .before .before .before .before .if1 .left) (record { stands = _; holds = c .before .before .before .before .before .before .before .before .loop .inv .0 .holds }) (c .if3 .taken)
+mul-st : tie.Need-mul-st Inv-loop μ-loop
+mul-st c = search needs
+
+element-set-from-st : tie.Need-element-set-from-st Inv-loop μ-loop
+element-set-from-st c = mark-room _ _ _ (c .before .before .before .before .before .before .refusal .ensures) (c .before .before .before .before .before .if1 .left) (record { stands = _; holds = c .before .before .before .before .before .before .before .before .before .loop .inv .0 .holds }) (c .before .if3 .taken)
+
+add-s : tie.Need-add-s Inv-loop μ-loop
+add-s c = search needs
 
 loop-less-3 : tie.Need-loop-less-3 Inv-loop μ-loop
 loop-less-3 c = search needs
 
 loop-again-3 : tie.Need-loop-again-3 Inv-loop μ-loop
-loop-again-3 c = (shown-more (order-part (c .before .before .before .before .before .before .before .before .before .before .before .before .before .args .orders .now) (c .before .before .before .before .before .before .before .before .before .loop .i) _ _ refl refl) (c .before .before .before .before .before .before .before .before .before .loop .inv .0) (c .before .before .before .before .before .before .refusal .ensures) (step-mark _ _ _ (c .before .before .before .before .before .before .refusal .ensures) (c .before .before .before .before .before .if1 .left) _ (c .before .if3 .taken) (c .mark .ensures)), omega (arith, c .before .before .before .before .before .before .before .before .loop-test .taken))
+loop-again-3 c = (shown-more (order-part (c .before .before .before .before .before .before .before .before .before .before .before .before .before .args .orders .now) (c .before .before .before .before .before .before .before .before .before .loop .i) _ _ refl refl) (c .before .before .before .before .before .before .before .before .before .loop .inv .0) (c .before .before .before .before .before .before .refusal .ensures) (step-mark _ _ _ (c .before .before .before .before .before .before .refusal .ensures) (c .before .before .before .before .before .if1 .left) _ (c .before .if3 .taken) (mark-holds _ _ refl refl refl (mark-room _ _ _ (c .before .before .before .before .before .before .refusal .ensures) (c .before .before .before .before .before .if1 .left) (record { stands = _; holds = c .before .before .before .before .before .before .before .before .before .loop .inv .0 .holds }) (c .before .if3 .taken)))), omega (arith, c .before .before .before .before .before .before .before .before .loop-test .taken))
 
 shared-slice-read-if4 : tie.Need-shared-slice-read-if4 Inv-loop μ-loop
 shared-slice-read-if4 c = search needs
@@ -91,14 +97,23 @@ shared-slice-read-wide-2 c = search needs
 wide-requires-2 : tie.Need-wide-requires-2 Inv-loop μ-loop
 wide-requires-2 c κs = search needs
 
-back-requires : tie.Need-back-requires Inv-loop μ-loop
-back-requires c κs = rw (c .wide2 .ensures .0) (back-room _ _ _ (c .before .before .before .before .before .before .before .before .before .refusal .ensures) (c .before .before .before .before .before .before .before .before .if1 .left) (record { stands = _; holds = c .before .before .before .before .before .before .before .before .before .before .before .before .loop .inv .0 .holds }) (c .before .before .if4 .taken))
+sub-st : tie.Need-sub-st Inv-loop μ-loop
+sub-st c = let q : (1 ≤ c .wide2 .result) × (c .wide2 .result ≤ c .before .before .before .before .before .before .before .before .before .before .before .before .loop .s .depth) × (c .before .before .before .before .before .before .before .before .before .before .before .before .loop .s .depth ≤ 16) = rw (c .wide2 .ensures .0) (back-room _ _ _ (c .before .before .before .before .before .before .before .before .before .refusal .ensures) (c .before .before .before .before .before .before .before .before .if1 .left) (record { stands = _; holds = c .before .before .before .before .before .before .before .before .before .before .before .before .loop .inv .0 .holds }) (c .before .before .if4 .taken)) in search (needs, q .0)
+
+mul-st-2 : tie.Need-mul-st-2 Inv-loop μ-loop
+mul-st-2 c = search needs
+
+element-copy-out-st : tie.Need-element-copy-out-st Inv-loop μ-loop
+element-copy-out-st c = let q : (1 ≤ c .wide2 .result) × (c .wide2 .result ≤ c .before .before .before .before .before .before .before .before .before .before .before .before .loop .s .depth) × (c .before .before .before .before .before .before .before .before .before .before .before .before .loop .s .depth ≤ 16) = rw (c .wide2 .ensures .0) (back-room _ _ _ (c .before .before .before .before .before .before .before .before .before .refusal .ensures) (c .before .before .before .before .before .before .before .before .if1 .left) (record { stands = _; holds = c .before .before .before .before .before .before .before .before .before .before .before .before .loop .inv .0 .holds }) (c .before .before .if4 .taken)) in omega (arith, q .0, q .1, q .2)
+
+sub-s : tie.Need-sub-s Inv-loop μ-loop
+sub-s c = let q : (1 ≤ c .before .wide2 .result) × (c .before .wide2 .result ≤ c .before .before .before .before .before .before .before .before .before .before .before .before .before .loop .s .depth) × (c .before .before .before .before .before .before .before .before .before .before .before .before .before .loop .s .depth ≤ 16) = rw (c .before .wide2 .ensures .0) (back-room _ _ _ (c .before .before .before .before .before .before .before .before .before .before .refusal .ensures) (c .before .before .before .before .before .before .before .before .before .if1 .left) (record { stands = _; holds = c .before .before .before .before .before .before .before .before .before .before .before .before .before .loop .inv .0 .holds }) (c .before .before .before .if4 .taken)) in search (needs, q .0)
 
 loop-less-4 : tie.Need-loop-less-4 Inv-loop μ-loop
 loop-less-4 c = search needs
 
 loop-again-4 : tie.Need-loop-again-4 Inv-loop μ-loop
-loop-again-4 c = (shown-more (order-part (c .before .before .before .before .before .before .before .before .before .before .before .before .before .before .before .before .before .args .orders .now) (c .before .before .before .before .before .before .before .before .before .before .before .before .before .loop .i) _ _ refl refl) (c .before .before .before .before .before .before .before .before .before .before .before .before .before .loop .inv .0) (c .before .before .before .before .before .before .before .before .before .before .refusal .ensures) (step-back _ _ _ (c .before .before .before .before .before .before .before .before .before .before .refusal .ensures) (c .before .before .before .before .before .before .before .before .before .if1 .left) _ (c .before .before .before .if4 .taken) (c .before .wide2 .ensures .0) (c .back .ensures)), omega (arith, c .before .before .before .before .before .before .before .before .before .before .before .before .loop-test .taken))
+loop-again-4 c = let q : (1 ≤ c .before .wide2 .result) × (c .before .wide2 .result ≤ c .before .before .before .before .before .before .before .before .before .before .before .before .before .loop .s .depth) × (c .before .before .before .before .before .before .before .before .before .before .before .before .before .loop .s .depth ≤ 16) = rw (c .before .wide2 .ensures .0) (back-room _ _ _ (c .before .before .before .before .before .before .before .before .before .before .refusal .ensures) (c .before .before .before .before .before .before .before .before .before .if1 .left) (record { stands = _; holds = c .before .before .before .before .before .before .before .before .before .before .before .before .before .loop .inv .0 .holds }) (c .before .before .before .if4 .taken)) in (shown-more (order-part (c .before .before .before .before .before .before .before .before .before .before .before .before .before .before .before .before .before .args .orders .now) (c .before .before .before .before .before .before .before .before .before .before .before .before .before .loop .i) _ _ refl refl) (c .before .before .before .before .before .before .before .before .before .before .before .before .before .loop .inv .0) (c .before .before .before .before .before .before .before .before .before .before .refusal .ensures) (step-back _ _ _ (c .before .before .before .before .before .before .before .before .before .before .refusal .ensures) (c .before .before .before .before .before .before .before .before .before .if1 .left) _ (c .before .before .before .if4 .taken) (c .before .wide2 .ensures .0) (back-holds _ _ refl refl refl (q .0) (q .1))), omega (arith, c .before .before .before .before .before .before .before .before .before .before .before .before .loop-test .taken))
 
 loop-less-5 : tie.Need-loop-less-5 Inv-loop μ-loop
 loop-less-5 c = search needs
@@ -134,13 +149,18 @@ run-spec =
     loop-less-2
     loop-again-2
     shared-slice-read-if3
-    mark-requires
+    mul-st
+    element-set-from-st
+    add-s
     loop-less-3
     loop-again-3
     shared-slice-read-if4
     shared-slice-read-wide-2
     wide-requires-2
-    back-requires
+    sub-st
+    mul-st-2
+    element-copy-out-st
+    sub-s
     loop-less-4
     loop-again-4
     loop-less-5

@@ -28,8 +28,8 @@ fn wrong_list(orders: &[u8]) -> bool
     orders.len() % 8 != 0
 }
 
-// Every order run in turn, from the opening. A mark and a back are written out here, as `Session::mark` and `Session::back` have them: a
-// method that goes to a saved state whose number varies has all sixteen copied on its way in and out.
+// Every order run in turn, from the opening. The orders are written out here as the session's methods have them: a method takes and gives
+// the session by value, and where a saved state is reached by a number that varies, that copies all sixteen each time.
 fn run(book: &[u8], first: &[usize; 8], mask: &[u32; 8], orders: &[u8]) -> Ran
     requires { ⌜ Accepted (now book) × LayoutOf (now book) (now first) (now mask) × (length (now orders) ≤ 2048) ⌝ }
     ensures { λ r. ⌜ Shown (now (book .entry)) (now (orders .entry)) (length (now (orders .entry)) / 8) (r .last) (r .session) ⌝ }
@@ -49,13 +49,15 @@ fn run(book: &[u8], first: &[usize; 8], mask: &[u32; 8], orders: &[u8]) -> Ran
             continue;
         }
         if order[0] == 1 {
-            s = s.narrow(
+            let st = s.now;
+            let t = st.narrowed(
                 book,
                 first,
                 mask,
                 book::fields::wide(order[1]),
                 mask_of(order),
             );
+            s.now = t;
             continue;
         }
         if order[0] == 2 {

@@ -1,20 +1,20 @@
 -- Laws of pass 2, first half: the values that the rows of a sheet carry. Assumes nothing.
 -- ---- the test that stops it
-use mathlib.Core.Path.{_∙_, _≡_, ap, sym}
+use mathlib.Core.Path.{_∙_, _≡_, ap, refl, sym}
 use mathlib.Core.Bool.{Bool, _||_, false, false≢true, not, true}
 use mathlib.Core.Logic.{_⊎_, inl, inr}
 use mathlib.Core.List.{List}
-use Prim.Native.Nat.{_%_, _*_, _+_, _-_, _/_, _<_, _^_, _≤_, ℕ}
+use Prim.Native.Nat.{_%_, _*_, _+_, _-_, _/_, _<_, _^_, _≤_, suc, zero, ℕ}
 use native.Mathlib.Omega.{arith}
 use lib.Bits.{bitAnd, bitOr}
 use lib.Dec.{eqb}
-use lib.ListN.{getD}
+use lib.ListN.{getD, replicate}
 use borrow.Author.Tests.{eqb-true}
 use Rattle.model.specs.Masks.{bit}
 use Rattle.model.specs.States.{ofSheet}
 use Rattle.model.proofs.Masks.{bit-and, bit-below, bit-of-zero, bit-or}
 use Rattle.model.proofs.Tests.{and-i, below, either, or-false-l, or-false-r}
-use Rattle.words.specs.Cells.{Covered, Gathered, cellAt, fourOf}
+use Rattle.words.specs.Cells.{Covered, Gathered, SmallSets, cellAt, fourOf}
 use Rattle.words.specs.Sheets.{AtSheet, Carries, IndexOf, Sized, Supported, isSet, valueAt}
 use Rattle.words.proofs.Cuts.{row-word}
 use Rattle.words.proofs.Indexes.{past-limit}
@@ -72,16 +72,38 @@ covered-four x0 x1 x2 x3 y0 y1 y2 y3 lx ly e =
     all : (v : ℕ) → ((b0 v || b1 v) || b2 v) ≡ false
     all v = or-false-l ((b0 v || b1 v) || b2 v) (b3 v) (whole-word v)
 
+pub covered-sets : (x y : List ℕ) → SmallSets x → SmallSets y
+    → eqb (bitOr (bitOr (bitOr (bitAnd (getD x 0 0) (4294967295 - getD y 0 0)) (bitAnd (getD x 1 0) (4294967295 - getD y 1 0))) (bitAnd (getD x 2 0) (4294967295 - getD y 2 0))) (bitAnd (getD x 3 0) (4294967295 - getD y 3 0))) 0 ≡ true
+    → Covered x y
+covered-sets x y p q e =
+    let c = covered-four (getD x 0 0) (getD x 1 0) (getD x 2 0) (getD x 3 0) (getD y 0 0) (getD y 1 0) (getD y 2 0) (getD y 3 0)
+    (p .fits 0, p .fits 1, p .fits 2, p .fits 3) (q .fits 0, q .fits 1, q .fits 2, q .fits 3) e in
+    record {
+      at = λ j v l.
+          four-all (λ j. bit v (getD x j 0) ≡ true → bit v (getD y j 0) ≡ true) (c .at 0 v (omega arith)) (c .at 1 v (omega arith))
+          (c .at 2 v (omega arith)) (c .at 3 v (omega arith)) j l;
+    }
+
+pub no-sets : SmallSets (replicate 4 0)
+no-sets = record { size = refl; fits = few }
+  where
+    few : (j : ℕ) → getD (replicate 4 0) j 0 < 2 ^ 32
+    few zero = omega arith
+    few (suc zero) = omega arith
+    few (suc (suc zero)) = omega arith
+    few (suc (suc (suc zero))) = omega arith
+    few (suc (suc (suc (suc j)))) = omega arith
+
 -- ---- the walk over the words
 -- every value seen is carried, and the values of the rows at positions below p have been seen
 pub record Supporting (b : List ℕ) (s p : ℕ) (W X seen : List ℕ) : Type 0 where
   pub sound : (j v : ℕ) → j < 4 → bit v (getD seen j 0) ≡ true → Carries b s W j v
   pub done : (i j k : ℕ) → i < p → j < 4 → bit k (ofSheet W s (ofSheet X s i)) ≡ true → bit (valueAt b s (64 * ofSheet X s i + k) j) (getD seen j 0) ≡ true
 
-pub supporting-start : (b : List ℕ) (s : ℕ) (W X : List ℕ) → Supporting b s 0 W X (fourOf 0 0 0 0)
-supporting-start b s W X =
+pub supporting-start : (b : List ℕ) (s : ℕ) (W X : List ℕ) {seen : List ℕ} → seen ≡ replicate 4 0 → Supporting b s 0 W X seen
+supporting-start b s W X {seen} z =
     record {
-      sound = λ j v l e. absurd (false≢true (sym (four-all (λ j. bit v (getD (fourOf 0 0 0 0) j 0) ≡ false) (bit-of-zero v) (bit-of-zero v) (bit-of-zero v) (bit-of-zero v) j l) ∙ e));
+      sound = λ j v l e. absurd (false≢true (sym (four-all (λ j. bit v (getD (replicate 4 0) j 0) ≡ false) (bit-of-zero v) (bit-of-zero v) (bit-of-zero v) (bit-of-zero v) j l) ∙ (rw z at e)));
       done = λ i j k l m e. absurd (omega arith);
     }
 

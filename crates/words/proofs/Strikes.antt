@@ -4,20 +4,21 @@ use mathlib.Core.Path.{_∙_, _≡_, ap, refl, sym}
 use mathlib.Core.Bool.{_&&_, _||_, false, false≢true, not, true}
 use mathlib.Core.Logic.{_⊎_, inl, inr}
 use mathlib.Core.List.{List}
-use Prim.Native.Nat.{_%_, _*_, _+_, _<_, _^_, _≤_, ℕ}
+use Prim.Native.Nat.{_%_, _*_, _+_, _<_, _^_, _≤_, suc, zero, ℕ}
 use native.Mathlib.Omega.{arith}
 use lib.Bits.{bitAnd, bitOr}
 use lib.Dec.{eqb}
-use lib.ListN.{getD, length}
+use lib.ListN.{getD, length, length-set, replicate, set}
 use lib.Seq.{getD-set-other, getD-set-same}
-use borrow.Author.Tests.{eq-eqb, eqb-true, lt-ltb}
+use borrow.Author.Tests.{eq-eqb, eqb-true}
 use Rattle.model.specs.Masks.{bit}
 use Rattle.model.specs.Stores.{IsStore, Within, has, meet, values}
 use Rattle.model.proofs.Masks.{bit-and, bit-or, bit-pow}
 use Rattle.model.proofs.Stores.{meet-has, meet-store, values-fall, within-refl, within-trans}
 use Rattle.model.proofs.Tests.{and-i, and-l, and-r, below, either, or-false-l, or-false-r}
 use Rattle.book.specs.Head.{columnOf, widthOf}
-use Rattle.words.specs.Sheets.{AtSheet, Carries, Loses, Struck, StruckPlace, Supported, domainAt}
+use Rattle.words.specs.Sheets.{AtSheet, Carries, Loses, Struck, StruckPlace, StruckTo, Supported, Wanted}
+use Rattle.words.proofs.Indexes.{set-below}
 use Rattle.words.proofs.Places.{column-below, width-most}
 use Rattle.words.proofs.Walks.{shifted-one}
 
@@ -109,25 +110,9 @@ module _ {b : List ℕ} {first s : ℕ} (j y : ℕ) {D : List ℕ} (a : AtSheet 
             same (inr x) z = absurd (false≢true (sym z ∙ ap not x))
 
 -- ---- all places
--- the places below n have been struck to the sets y
-pub record StruckTo (b : List ℕ) (s n : ℕ) (y D D′ : List ℕ) (lost : ℕ) : Type 0 where
-  pub loses : Loses D D′ lost
-  pub struck : (c v : ℕ) → has D c v ≡ true
-      → (has D′ c v ≡ true) ⊎ ((j : ℕ) × (j < n) × (j < widthOf b s) × (columnOf b s j ≡ c) × (bit v (getD y j 0) ≡ false))
-  pub left : (j v : ℕ) → j < n → j < widthOf b s → has D′ (columnOf b s j) v ≡ true → bit v (getD y j 0) ≡ true
-
 module _ {b : List ℕ} {s : ℕ} (y : List ℕ) {D : List ℕ} where
-  pub struck-one : {E : List ℕ} {lost : ℕ} → StruckPlace b s 0 (getD y 0 0) D E lost → StruckTo b s 1 y D E lost
-  struck-one {E} h = record {
-    loses = h .loses;
-    struck = λ c v e. go c v (h .struck c v e);
-    left = λ j v l m e. let z : j ≡ 0 = omega arith in rw z (h .left v (rw z at m) (rw z at e));
-  }
-    where
-      go : (c v : ℕ) → (has E c v ≡ true) ⊎ ((0 < widthOf b s) × (columnOf b s 0 ≡ c) × (bit v (getD y 0 0) ≡ false))
-          → (has E c v ≡ true) ⊎ ((j : ℕ) × (j < 1) × (j < widthOf b s) × (columnOf b s j ≡ c) × (bit v (getD y j 0) ≡ false))
-      go c v (inl e) = inl e
-      go c v (inr (l, e, f)) = inr (0, omega arith, l, e, f)
+  pub struck-none : IsStore 16 D → StruckTo b s 0 y D D 0
+  struck-none d = record { loses = loses-none d; struck = λ c v e. inl e; left = λ j v l m e. absurd (omega arith) }
 
   pub struck-more : {E F : List ℕ} {lost more : ℕ} (n : ℕ) → StruckTo b s n y D E lost → StruckPlace b s n (getD y n 0) E F more
       → StruckTo b s (n + 1) y D F (bitOr lost more)
@@ -153,18 +138,42 @@ module _ {b : List ℕ} {s : ℕ} (y : List ℕ) {D : List ℕ} where
 
 -- the sets are what the rows carry of the domains
 pub struck-all-places : {b : List ℕ} {first s : ℕ} → AtSheet b first s → {W x y D E : List ℕ} {lost : ℕ}
-    → ((j : ℕ) → j < 4 → getD x j 0 ≡ domainAt b s D j) → Supported b s W x y → StruckTo b s 4 y D E lost → Struck b s W D E lost
-unfolding domainAt has
-struck-all-places {b} {first} {s} a {W} {x} {y} {D} {E} ex h p =
+    → Wanted b s D (widthOf b s) x → Supported b s W x y → StruckTo b s (widthOf b s) y D E lost → Struck b s W D E lost
+unfolding has
+struck-all-places {b} {first} {s} a {W} {x} {y} {D} {E} w h p =
     record {
       loses = p .loses;
       struck = λ c v e. go c v e (p .struck c v e);
-      left = λ j v l e. let m : j < 4 = omega (arith, width-most a .1) in h .sound j v m (p .left j v m l e);
+      left = λ j v l e. h .sound j v (omega (arith, width-most a .1)) (p .left j v l l e);
     }
   where
     go : (c v : ℕ) → has D c v ≡ true
-        → (has E c v ≡ true) ⊎ ((j : ℕ) × (j < 4) × (j < widthOf b s) × (columnOf b s j ≡ c) × (bit v (getD y j 0) ≡ false))
+        → (has E c v ≡ true) ⊎ ((j : ℕ) × (j < widthOf b s) × (j < widthOf b s) × (columnOf b s j ≡ c) × (bit v (getD y j 0) ≡ false))
         → (has E c v ≡ true) ⊎ ((j : ℕ) × (j < widthOf b s) × (columnOf b s j ≡ c) × (Carries b s W j v → ⊥))
     go c v e (inl f) = inl f
     go c v e (inr (j, m, l, q, f)) =
-        inr (j, l, q, λ r. false≢true (sym f ∙ h .complete j v m (rw (ex j m, lt-ltb j (widthOf b s) l, q) e) r))
+        inr (j, l, q, λ r. false≢true (sym f ∙ h .complete j v (omega (arith, width-most a .1)) (rw (w .at j l, q) e) r))
+
+-- ---- the domains of the places
+pub wanted-none : {b : List ℕ} {s : ℕ} {D x : List ℕ} → x ≡ replicate 4 1 → Wanted b s D 0 x
+wanted-none {b} {s} {D} {x} e = record { small = record { size = ap (λ (l : List ℕ). length l) e; fits = λ j. rw e (few j) }; at = λ j l. absurd (omega arith) }
+  where
+    few : (j : ℕ) → getD (replicate 4 1) j 0 < 2 ^ 32
+    few zero = omega arith
+    few (suc zero) = omega arith
+    few (suc (suc zero)) = omega arith
+    few (suc (suc (suc zero))) = omega arith
+    few (suc (suc (suc (suc j)))) = omega arith
+
+pub wanted-more : {b : List ℕ} {s n c : ℕ} {D x : List ℕ} → Wanted b s D n x → n < 4 → c ≡ columnOf b s n → IsStore 16 D → Wanted b s D (n + 1) (set x n (getD D c 0))
+wanted-more {b} {s} {n} {c} {D} {x} h l e d =
+    record {
+      small = record { size = length-set x n _ ∙ h .small .size; fits = set-below x n (getD D c 0) (2 ^ 32) (d .bits c) (h .small .fits) };
+      at = λ j m. go j (below j n) m;
+    }
+  where
+    go : (j : ℕ) → (j < n) ⊎ (n ≤ j) → j < n + 1 → getD (set x n (getD D c 0)) j 0 ≡ getD D (columnOf b s j) 0
+    go j (inl p) m = getD-set-other x n j (getD D c 0) 0 (λ z. omega arith) ∙ h .at j p
+    go j (inr p) m =
+        let z : j ≡ n = omega arith in
+        rw z (getD-set-same x n (getD D c 0) 0 (omega (arith, h .small .size)) ∙ ap (λ (i : ℕ). getD D i 0) e)

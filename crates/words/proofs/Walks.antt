@@ -1,16 +1,16 @@
 -- Laws of a walk over the places of a word, lowest first. Assumes nothing.
 use mathlib.Core.Path.{_∙_, _≡_, ap, refl, sym}
 use mathlib.Core.Bool.{Bool, _&&_, _||_, false, false≢true, not, or-false, true}
-use mathlib.Core.Logic.{_⊎_, inl, inr}
-use mathlib.Core.List.{List}
+use mathlib.Core.Logic.{_⊎_, inl, inr, ⊎-elim}
+use mathlib.Core.List.{List, [], _∷_}
 use Prim.Native.Nat.{_%_, _*_, _+_, _-_, _/_, _<_, _^_, _≤_, suc, zero, ℕ}
 use native.Mathlib.Nat.{div-le-self, lt-of-le-of-lt, mod-eq-of-lt, mod-lt, one-mul, zero-mul}
 use native.Mathlib.Omega.{arith}
 use lib.Arith.{lt-of-le-ne}
-use lib.Bits.{and-le-r, bitAnd, bitOr}
+use lib.Bits.{and-le-r, bitAnd, bitOr, or-lt}
 use lib.Count.{trailingZeros}
 use lib.Dec.{eqb, lit<, ltb}
-use lib.ListN.{getD}
+use lib.ListN.{set, getD}
 use lib.Pow.{pow-lt}
 use borrow.Author.Tests.{eq-eqb, eqb-false, eqb-true, le-ltb, lt-ltb, ltb-true, ne-eqb}
 use Rattle.model.specs.Masks.{Cleared, bit, maskOf}
@@ -18,7 +18,7 @@ use Rattle.model.specs.Tests.{oneIf}
 use Rattle.model.proofs.Masks.{bit-and, bit-high, bit-maskOf, bit-of-zero, bit-or, bit-pow, bit-pow-only, bit-pow-other, maskOf-lt, maskOf-same}
 use Rattle.model.proofs.Tests.{and-false, and-l, and-r, and-true, below, either, or-e, or-l, or-r}
 use Rattle.book.specs.Fields.{byteAt}
-use Rattle.words.specs.Cells.{AllNear, Gathered, GatheredNear, GatheredOf, Kept, KeptNear, NearReadable, NearRows, PastRun, Readable, RunOf, cellAt, cellPlace, fourOf, nearPlace}
+use Rattle.words.specs.Cells.{AllNear, Gathered, GatheredNear, GatheredOf, Joined, Kept, KeptNear, NearReadable, NearRows, PastRun, Readable, RunOf, SmallSets, cellAt, cellPlace, fourOf, nearPlace}
 use Rattle.words.proofs.Ones.{below-lowest, complement, low-ones, ones-shifted}
 
 pub four-all : (P : ℕ → Type 0) → P 0 → P 1 → P 2 → P 3 → (j : ℕ) → j < 4 → P j
@@ -53,6 +53,10 @@ part-cleared {left} {rest} {t} {word} c p =
 -- 1 shifted to the place v
 pub shifted-one : (k v : ℕ) → v < k → (1 * 2 ^ v) % 2 ^ k ≡ 2 ^ v
 shifted-one k v l = rw (one-mul, mod-eq-of-lt (pow-lt l))
+
+-- the last five bits of a value are the value
+pub low-five : {v x : ℕ} → v ≡ x → x < 32 → v % 32 ≡ x
+low-five e l = ap (λ (i : ℕ). i % 32) e ∙ mod-eq-of-lt l
 
 -- ---- pass 1
 -- what is kept, and of what is left whatever passes p, is what passes p of the word
@@ -327,6 +331,55 @@ module _ (cell : ℕ → ℕ → ℕ) {f : List ℕ} where
   of-row t g0 g1 g2 g3 h0 h1 h2 h3 e p e0 e1 e2 e3 =
       of-join e p
       (one-row cell t (four-all (λ j. getD (fourOf h0 h1 h2 h3) j 0 ≡ bitOr (getD (fourOf g0 g1 g2 g3) j 0) (2 ^ cell t j)) e0 e1 e2 e3))
+
+-- what was gathered from nothing, added to sets
+pub of-added : {cell : ℕ → ℕ → ℕ} {passes : ℕ → Bool} {f g h : List ℕ} → GatheredOf cell passes (fourOf 0 0 0 0) g → Joined f g h → GatheredOf cell passes f h
+of-added {cell} {passes} {f} {g} {h} p q =
+    record {
+      old = λ j v l e. into j v l (or-l (bit v (getD f j 0)) (bit v (getD g j 0)) e);
+      new = λ j k l e. into j (cell k j) l (or-r (bit (cell k j) (getD f j 0)) (bit (cell k j) (getD g j 0)) (p .new j k l e));
+      sound = λ j v l e. go j v l (or-e (bit v (getD f j 0)) (bit v (getD g j 0)) (sym (bit-or v (getD f j 0) (getD g j 0)) ∙ ap (bit v) (sym (q .at j l)) ∙ e));
+    }
+  where
+    into : (j v : ℕ) → j < 4 → (bit v (getD f j 0) || bit v (getD g j 0)) ≡ true → bit v (getD h j 0) ≡ true
+    into j v l e = ap (bit v) (q .at j l) ∙ bit-or v (getD f j 0) (getD g j 0) ∙ e
+
+    nothing : (j v : ℕ) → j < 4 → bit v (getD (fourOf 0 0 0 0) j 0) ≡ true → ⊥
+    nothing j v l e =
+        false≢true (sym (four-all (λ j. bit v (getD (fourOf 0 0 0 0) j 0) ≡ false) (bit-of-zero v) (bit-of-zero v) (bit-of-zero v) (bit-of-zero v) j l) ∙ e)
+
+    go : (j v : ℕ) → j < 4 → (bit v (getD f j 0) ≡ true) ⊎ (bit v (getD g j 0) ≡ true)
+        → (bit v (getD f j 0) ≡ true) ⊎ ((k : ℕ) × (passes k ≡ true) × (cell k j ≡ v))
+    go j v l (inl e) = inl e
+    go j v l (inr e) = ⊎-elim (λ z. absurd (nothing j v l z)) (λ r. inr r) (p .sound j v l e)
+
+-- the code's sets, written place by place
+abbrev pub addedTo : List ℕ → ℕ → ℕ → ℕ → ℕ → List ℕ
+addedTo f g0 g1 g2 g3 =
+    let p = set f 0 (bitOr (getD f 0 0) g0) in
+    let q = set p 1 (bitOr (getD p 1 0) g1) in
+    let r = set q 2 (bitOr (getD q 2 0) g2) in
+    set r 3 (bitOr (getD r 3 0) g3)
+
+pub sets-joined : (f : List ℕ) (g0 g1 g2 g3 : ℕ) → SmallSets f → ((g0 < 2 ^ 32) × (g1 < 2 ^ 32) × (g2 < 2 ^ 32) × (g3 < 2 ^ 32))
+    → Joined f (fourOf g0 g1 g2 g3) (addedTo f g0 g1 g2 g3)
+sets-joined [] g0 g1 g2 g3 s l = absurd (omega (arith, s .size))
+sets-joined (w ∷ []) g0 g1 g2 g3 s l = absurd (omega (arith, s .size))
+sets-joined (w ∷ x ∷ []) g0 g1 g2 g3 s l = absurd (omega (arith, s .size))
+sets-joined (w ∷ x ∷ y ∷ []) g0 g1 g2 g3 s l = absurd (omega (arith, s .size))
+sets-joined (w ∷ x ∷ y ∷ z ∷ (u ∷ f)) g0 g1 g2 g3 s l = absurd (omega (arith, s .size))
+sets-joined (w ∷ x ∷ y ∷ z ∷ []) g0 g1 g2 g3 s l =
+    record {
+      small = record { size = refl; fits = few };
+      at = four-all (λ j. getD (fourOf (bitOr w g0) (bitOr x g1) (bitOr y g2) (bitOr z g3)) j 0 ≡ bitOr (getD (fourOf w x y z) j 0) (getD (fourOf g0 g1 g2 g3) j 0)) refl refl refl refl;
+    }
+  where
+    few : (j : ℕ) → getD (fourOf (bitOr w g0) (bitOr x g1) (bitOr y g2) (bitOr z g3)) j 0 < 2 ^ 32
+    few zero = or-lt 32 w g0 (s .fits 0) (l .0)
+    few (suc zero) = or-lt 32 x g1 (s .fits 1) (l .1)
+    few (suc (suc zero)) = or-lt 32 y g2 (s .fits 2) (l .2)
+    few (suc (suc (suc zero))) = or-lt 32 z g3 (s .fits 3) (l .3)
+    few (suc (suc (suc (suc j)))) = omega arith
 
 -- the rows of the word that are no longer left
 unfoldable pub passed : ℕ → ℕ → ℕ → Bool

@@ -3,7 +3,8 @@ use mathlib.Core.Path.{_≡_}
 use mathlib.Core.Bool.{Bool, _&&_, not, true}
 use mathlib.Core.Logic.{_⊎_}
 use mathlib.Core.List.{List, [], _∷_}
-use Prim.Native.Nat.{_%_, _*_, _+_, _/_, _<_, ℕ}
+use Prim.Native.Nat.{_%_, _*_, _+_, _/_, _<_, _^_, ℕ}
+use lib.Bits.{bitOr}
 use lib.Dec.{ltb}
 use lib.ListN.{getD, length}
 use Rattle.model.specs.Masks.{bit}
@@ -66,6 +67,16 @@ GatheredNear b base word f g = GatheredOf (λ k j. byteAt b (base + 4 * k + j)) 
 -- the first n of them
 abbrev pub GatheredRun : List ℕ → ℕ → ℕ → List ℕ → List ℕ → Type 0
 GatheredRun b base n f g = GatheredOf (λ k j. byteAt b (base + 4 * k + j)) (λ k. ltb k n) f g
+
+-- four sets of 32 bits
+pub record SmallSets (f : List ℕ) : Type 0 where
+  pub size : length f ≡ 4
+  pub fits : (j : ℕ) → getD f j 0 < 2 ^ 32
+
+-- the sets h are the sets f and g together
+pub record Joined (f g h : List ℕ) : Type 0 where
+  pub small : SmallSets h
+  pub at : (j : ℕ) → j < 4 → getD h j 0 ≡ bitOr (getD f j 0) (getD g j 0)
 
 -- the four bytes of a row are there, and are values
 pub record RowThere (b : List ℕ) (at : ℕ) : Type 0 where

@@ -2,11 +2,10 @@
 --
 -- Names: W, X, N are the arrays of words, index positions and limits (one more than the limit), D the domains; a second set has a ′.
 use mathlib.Core.Path.{_≡_}
-use mathlib.Core.Bool.{Bool, _&&_, _||_, cond, false, not, true}
+use mathlib.Core.Bool.{Bool, _&&_, _||_, false, not, true}
 use mathlib.Core.Logic.{_⊎_}
 use mathlib.Core.List.{List}
 use Prim.Native.Nat.{_%_, _*_, _/_, _<_, _^_, _≤_, ℕ}
-use lib.Dec.{ltb}
 use lib.ListN.{getD, length, set}
 use Rattle.model.specs.Books.{supported}
 use Rattle.model.specs.Masks.{bit}
@@ -17,7 +16,7 @@ use Rattle.book.specs.Decoding.{bookOf}
 use Rattle.book.specs.Head.{columnOf, rowsOf, sheetsOf, widthOf}
 use Rattle.book.specs.Rows.{firstBlock}
 use Rattle.book.specs.Verdicts.{Accepted}
-use Rattle.words.specs.Cells.{Kept, cellAt}
+use Rattle.words.specs.Cells.{Kept, SmallSets, cellAt}
 
 -- ---- the rows of a sheet
 -- the byte at which the rows of sheet s begin
@@ -108,9 +107,10 @@ pub record Supported (b : List ℕ) (s : ℕ) (W x y : List ℕ) : Type 0 where
   pub sound : (j v : ℕ) → j < 4 → bit v (getD y j 0) ≡ true → Carries b s W j v
   pub complete : (j v : ℕ) → j < 4 → bit v (getD x j 0) ≡ true → Carries b s W j v → bit v (getD y j 0) ≡ true
 
--- the domain of place j, and 0 alone at a place past the width
-unfoldable pub domainAt : List ℕ → ℕ → List ℕ → ℕ → ℕ
-domainAt b s D j = cond (ltb j (widthOf b s)) (getD D (columnOf b s j) 0) 1
+-- the sets x are the domains at the places below n
+pub record Wanted (b : List ℕ) (s : ℕ) (D : List ℕ) (n : ℕ) (x : List ℕ) : Type 0 where
+  pub small : SmallSets x
+  pub at : (j : ℕ) → j < n → getD x j 0 ≡ getD D (columnOf b s j) 0
 
 -- domains lose values; `lost` are the columns that lose one
 pub record Loses (D D′ : List ℕ) (lost : ℕ) : Type 0 where
@@ -125,6 +125,13 @@ pub record StruckPlace (b : List ℕ) (s j y : ℕ) (D D′ : List ℕ) (lost : 
   pub loses : Loses D D′ lost
   pub struck : (c v : ℕ) → has D c v ≡ true → (has D′ c v ≡ true) ⊎ ((j < widthOf b s) × (columnOf b s j ≡ c) × (bit v y ≡ false))
   pub left : (v : ℕ) → j < widthOf b s → has D′ (columnOf b s j) v ≡ true → bit v y ≡ true
+
+-- the columns of the places below n keep their values that are in the sets y, and no other column changes
+pub record StruckTo (b : List ℕ) (s n : ℕ) (y D D′ : List ℕ) (lost : ℕ) : Type 0 where
+  pub loses : Loses D D′ lost
+  pub struck : (c v : ℕ) → has D c v ≡ true
+      → (has D′ c v ≡ true) ⊎ ((j : ℕ) × (j < n) × (j < widthOf b s) × (columnOf b s j ≡ c) × (bit v (getD y j 0) ≡ false))
+  pub left : (j v : ℕ) → j < n → j < widthOf b s → has D′ (columnOf b s j) v ≡ true → bit v (getD y j 0) ≡ true
 
 -- of each column of the sheet the values that no row carries are struck, and no other
 pub record Struck (b : List ℕ) (s : ℕ) (W D D′ : List ℕ) (lost : ℕ) : Type 0 where

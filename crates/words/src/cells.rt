@@ -11,7 +11,7 @@ ghost use Prim.Native.Nat.{_+_, _*_, _/_, _%_, _^_, _<_, _≤_};
 ghost use lib.Bits.{bitOr};
 ghost use lib.ListN.{length};
 ghost use Rattle.book.specs.Fields.{byteAt};
-ghost use Rattle.words.specs.Cells.{nearPlace, Readable, Kept, KeptNear, NearReadable, AllNear, fourOf, RowThere, NearRows, RunReadable, RunOf, PastRun, Gathered, GatheredNear, GatheredRun};
+ghost use Rattle.words.specs.Cells.{nearPlace, Readable, Kept, KeptNear, NearReadable, AllNear, fourOf, RowThere, NearRows, RunReadable, RunOf, PastRun, Gathered, GatheredNear, GatheredRun, SmallSets, Joined};
 
 // ---- pass 1: the rows whose value at a place is in d
 
@@ -95,7 +95,7 @@ pub fn kept(book: &[u8], first: usize, w: usize, j: usize, d: u32, word: u64) ->
 
 // ---- pass 2: the values at each of the four places
 
-// A set of values for each place.
+// A set of values for each place, while the rows of one word are walked.
 pub struct Four {
     pub a: u32,
     pub b: u32,
@@ -103,16 +103,16 @@ pub struct Four {
     pub d: u32,
 }
 
-// The values of the row at byte `at`, added to the sets.
+// The values of the row at byte `at`, added to the sets. They are below 32; that it is said again lets the compiler take all four at once.
 fn with_row(book: &[u8], at: usize, f: Four) -> Four
     requires { ⌜ RowThere (now book) at ⌝ }
     ensures { λ g. ⌜ (g .a ≡ bitOr (f .a) (2 ^ byteAt (now (book .entry)) (at + 0))) × (g .b ≡ bitOr (f .b) (2 ^ byteAt (now (book .entry)) (at + 1))) × (g .c ≡ bitOr (f .c) (2 ^ byteAt (now (book .entry)) (at + 2))) × (g .d ≡ bitOr (f .d) (2 ^ byteAt (now (book .entry)) (at + 3))) ⌝ }
 {
     Four {
-        a: f.a | only(book::fields::wide32(book[at])),
-        b: f.b | only(book::fields::wide32(book[at + 1])),
-        c: f.c | only(book::fields::wide32(book[at + 2])),
-        d: f.d | only(book::fields::wide32(book[at + 3])),
+        a: f.a | only(book::fields::wide32(book[at]) % 32),
+        b: f.b | only(book::fields::wide32(book[at + 1]) % 32),
+        c: f.c | only(book::fields::wide32(book[at + 2]) % 32),
+        d: f.d | only(book::fields::wide32(book[at + 3]) % 32),
     }
 }
 
@@ -134,11 +134,16 @@ fn past_run(word: u64, n: usize) -> u64
 }
 
 // The first n rows of a word, all of them set.
-fn gathered_run(book: &[u8], base: usize, n: usize, f: Four) -> Four
+fn gathered_run(book: &[u8], base: usize, n: usize) -> Four
     requires { ⌜ (n ≤ 60) × RunReadable (now book) base n ⌝ }
-    ensures { λ g. ⌜ GatheredRun (now (book .entry)) base n (fourOf (f .a) (f .b) (f .c) (f .d)) (fourOf (g .a) (g .b) (g .c) (g .d)) ⌝ }
+    ensures { λ g. ⌜ GatheredRun (now (book .entry)) base n (fourOf 0 0 0 0) (fourOf (g .a) (g .b) (g .c) (g .d)) ⌝ }
 {
-    let mut g = f;
+    let mut g = Four {
+        a: 0,
+        b: 0,
+        c: 0,
+        d: 0,
+    };
     let mut k: usize = 0;
     while k < n {
         g = with_row(book, base + 4 * k, g);
@@ -148,12 +153,17 @@ fn gathered_run(book: &[u8], base: usize, n: usize, f: Four) -> Four
 }
 
 // Rows that are set, one by one.
-fn gathered_near_set(book: &[u8], base: usize, word: u64, f: Four) -> Four
+fn gathered_near_set(book: &[u8], base: usize, word: u64) -> Four
     requires { ⌜ NearRows (now book) base word ⌝ }
-    ensures { λ g. ⌜ GatheredNear (now (book .entry)) base word (fourOf (f .a) (f .b) (f .c) (f .d)) (fourOf (g .a) (g .b) (g .c) (g .d)) ⌝ }
+    ensures { λ g. ⌜ GatheredNear (now (book .entry)) base word (fourOf 0 0 0 0) (fourOf (g .a) (g .b) (g .c) (g .d)) ⌝ }
 {
     let mut left = word;
-    let mut g = f;
+    let mut g = Four {
+        a: 0,
+        b: 0,
+        c: 0,
+        d: 0,
+    };
     while left != 0 {
         let i = lowest(left);
         g = with_row(book, base + 4 * (i as usize), g);
@@ -163,12 +173,17 @@ fn gathered_near_set(book: &[u8], base: usize, word: u64, f: Four) -> Four
 }
 
 // Rows anywhere.
-fn gathered_far(book: &[u8], first: usize, from: usize, word: u64, f: Four) -> Four
+fn gathered_far(book: &[u8], first: usize, from: usize, word: u64) -> Four
     requires { ⌜ (from ≤ 448) × Readable (now book) first from word ⌝ }
-    ensures { λ g. ⌜ Gathered (now (book .entry)) first from word (fourOf (f .a) (f .b) (f .c) (f .d)) (fourOf (g .a) (g .b) (g .c) (g .d)) ⌝ }
+    ensures { λ g. ⌜ Gathered (now (book .entry)) first from word (fourOf 0 0 0 0) (fourOf (g .a) (g .b) (g .c) (g .d)) ⌝ }
 {
     let mut left = word;
-    let mut g = f;
+    let mut g = Four {
+        a: 0,
+        b: 0,
+        c: 0,
+        d: 0,
+    };
     while left != 0 {
         let i = lowest(left);
         let r = from + (i as usize);
@@ -178,33 +193,44 @@ fn gathered_far(book: &[u8], first: usize, from: usize, word: u64, f: Four) -> F
     g
 }
 
+// Sets added to sets.
+fn add(seen: &mut [u32; 4], g: Four)
+    requires { ⌜ SmallSets (now seen) ⌝ }
+    ensures { λ r. ⌜ Joined (now (seen .entry)) (fourOf (g .a) (g .b) (g .c) (g .d)) (now (seen .exit)) ⌝ }
+{
+    seen[0] = seen[0] | g.a;
+    seen[1] = seen[1] | g.b;
+    seen[2] = seen[2] | g.c;
+    seen[3] = seen[3] | g.d;
+}
+
 // The first 60 rows: those that are set from the first on without a gap, and then the others.
-fn gathered_near(book: &[u8], base: usize, word: u64, f: Four) -> Four
-    requires { ⌜ NearRows (now book) base word × (word < 1152921504606846976) ⌝ }
-    ensures { λ g. ⌜ GatheredNear (now (book .entry)) base word (fourOf (f .a) (f .b) (f .c) (f .d)) (fourOf (g .a) (g .b) (g .c) (g .d)) ⌝ }
+fn gathered_near(book: &[u8], base: usize, word: u64, seen: &mut [u32; 4])
+    requires { ⌜ NearRows (now book) base word × (word < 1152921504606846976) × SmallSets (now seen) ⌝ }
+    ensures { λ r. ⌜ GatheredNear (now (book .entry)) base word (now (seen .entry)) (now (seen .exit)) × SmallSets (now (seen .exit)) ⌝ }
 {
     let n = run_of(word);
     if n < 24 {
-        return gathered_near_set(book, base, word, f);
+        add(seen, gathered_near_set(book, base, word));
+        return;
     }
-    gathered_near_set(
-        book,
-        base,
-        past_run(word, n),
-        gathered_run(book, base, n, f),
-    )
+    add(seen, gathered_run(book, base, n));
+    add(seen, gathered_near_set(book, base, past_run(word, n)));
 }
 
-// Pass 2 over word w.
-pub fn gathered(book: &[u8], first: usize, w: usize, word: u64, f: Four) -> Four
-    requires { ⌜ (w < 8) × Readable (now book) first (64 * w) word × (nearPlace first w + 239 < length (now book)) ⌝ }
-    ensures { λ g. ⌜ Gathered (now (book .entry)) first (64 * w) word (fourOf (f .a) (f .b) (f .c) (f .d)) (fourOf (g .a) (g .b) (g .c) (g .d)) ⌝ }
+// Pass 2 over word w: the values of its rows are added to a set for each place.
+pub fn gathered(book: &[u8], first: usize, w: usize, word: u64, seen: &mut [u32; 4])
+    requires { ⌜ (w < 8) × Readable (now book) first (64 * w) word × (nearPlace first w + 239 < length (now book)) × SmallSets (now seen) ⌝ }
+    ensures { λ r. ⌜ Gathered (now (book .entry)) first (64 * w) word (now (seen .entry)) (now (seen .exit)) × SmallSets (now (seen .exit)) ⌝ }
 {
     let from = 64 * w;
     let near = word & 1152921504606846975;
-    let g = gathered_near(book, first + 4 * (from + from / 127), near, f);
+    gathered_near(book, first + 4 * (from + from / 127), near, seen);
     if near == word {
-        return g;
+        return;
     }
-    gathered_far(book, first, from, word & !1152921504606846975, g)
+    add(
+        seen,
+        gathered_far(book, first, from, word & !1152921504606846975),
+    );
 }

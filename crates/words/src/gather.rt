@@ -3,15 +3,17 @@ use crate::cells::*;
 use crate::index::*;
 ghost use mathlib.Core.Path.{_≡_};
 ghost use mathlib.Core.Bool.{true};
-ghost use Prim.Native.Nat.{_+_, _*_, _<_, _≤_};
-ghost use Rattle.words.specs.Cells.{fourOf, Covered};
+ghost use Prim.Native.Nat.{_+_, _*_, _<_, _≤_, _^_};
+ghost use lib.ListN.{length, replicate};
+ghost use Rattle.words.specs.Cells.{Covered, SmallSets};
 ghost use Rattle.words.specs.Sheets.{AtSheet, Inside, IndexOf, Sized, Supported};
 
 // Whether every value of x is in y.
-fn covered(x: Four, y: Four) -> bool
-    ensures { λ r. ⌜ (r ≡ true → Covered (fourOf (x .a) (x .b) (x .c) (x .d)) (fourOf (y .a) (y .b) (y .c) (y .d))) ⌝ }
+fn covered(x: &[u32; 4], y: &[u32; 4]) -> bool
+    requires { ⌜ SmallSets (now x) × SmallSets (now y) ⌝ }
+    ensures { λ r. ⌜ (r ≡ true → Covered (now (x .entry)) (now (y .entry))) ⌝ }
 {
-    (x.a & !y.a) | (x.b & !y.b) | (x.c & !y.c) | (x.d & !y.d) == 0
+    (x[0] & !y[0]) | (x[1] & !y[1]) | (x[2] & !y[2]) | (x[3] & !y[3]) == 0
 }
 
 // The values that the rows of sheet s carry at each place; of these, once all of x have been seen, the ones seen.
@@ -19,29 +21,23 @@ pub fn carried(
     book: &[u8],
     first: usize,
     s: usize,
-    x: Four,
+    x: &[u32; 4],
+    seen: &mut [u32; 4],
     live: &[u64; 64],
     index: &[u8; 64],
     limit: &[u8; 8],
-) -> Four
-    requires { ⌜ AtSheet (now book) first s × Inside (now book) s (now live) × IndexOf s (now live) (now index) (now limit) × Sized (now live) (now index) (now limit) ⌝ }
-    ensures { λ y. ⌜ Supported (now (book .entry)) s (now (live .entry)) (fourOf (x .a) (x .b) (x .c) (x .d)) (fourOf (y .a) (y .b) (y .c) (y .d)) ⌝ }
+)
+    requires { ⌜ AtSheet (now book) first s × Inside (now book) s (now live) × IndexOf s (now live) (now index) (now limit) × Sized (now live) (now index) (now limit) × (now seen ≡ replicate 4 0) × SmallSets (now x) ⌝ }
+    ensures { λ r. ⌜ Supported (now (book .entry)) s (now (live .entry)) (now (x .entry)) (now (seen .exit)) ⌝ }
 {
     let n = nonzero_words(limit, s);
-    let mut seen = Four {
-        a: 0,
-        b: 0,
-        c: 0,
-        d: 0,
-    };
     let mut p: usize = 0;
     while p < n {
         let w = word_number(index, s, p);
-        seen = gathered(book, first, w, live[8 * s + w], seen);
+        gathered(book, first, w, live[8 * s + w], seen);
         if covered(x, seen) {
-            return seen;
+            return;
         }
         p += 1;
     }
-    seen
 }

@@ -1,25 +1,26 @@
 // Pass 2, second half: the columns of a sheet struck to what its rows carry; and the whole look at a sheet.
-use crate::cells::*;
 use crate::cut::*;
 use crate::gather::*;
 ghost use mathlib.Core.Path.{_≡_};
 ghost use mathlib.Core.Bool.{false};
 ghost use Prim.Native.Nat.{_+_, _*_, _<_, _≤_};
-ghost use lib.ListN.{getD};
+ghost use lib.ListN.{getD, replicate};
 ghost use Rattle.model.specs.Stores.{IsStore};
 ghost use Rattle.book.specs.Head.{widthOf, columnOf};
-ghost use Rattle.words.specs.Cells.{fourOf};
-ghost use Rattle.words.specs.Sheets.{AtSheet, Inside, IndexOf, Sized, domainAt, Struck, StruckPlace, Carried, SheetKnown, AllCarried, Revised};
+ghost use Rattle.words.specs.Sheets.{AtSheet, Inside, IndexOf, Sized, Wanted, StruckPlace, StruckTo, Struck, Carried, SheetKnown, AllCarried, Revised};
 
-// The domain of place j of sheet s; of a place that is not used, 0 alone, which is what every row has there.
-fn domain(book: &[u8], first: usize, s: usize, j: usize, dom: &[u32; 16]) -> u32
-    requires { ⌜ AtSheet (now book) first s × (j < 4) ⌝ }
-    ensures { λ r. ⌜ r ≡ domainAt (now (book .entry)) s (now (dom .entry)) j ⌝ }
+// The domain of each place of sheet s; of a place that is not used, 0 alone, which is what every row has there.
+fn wanted(book: &[u8], first: usize, s: usize, dom: &[u32; 16], x: &mut [u32; 4])
+    requires { ⌜ AtSheet (now book) first s × IsStore 16 (now dom) × (now x ≡ replicate 4 1) ⌝ }
+    ensures { λ r. ⌜ Wanted (now (book .entry)) s (now (dom .entry)) (widthOf (now (book .entry)) s) (now (x .exit)) ⌝ }
 {
-    if j < book::head::width(book, s) {
-        return dom[book::head::column(book, s, j)];
+    let k = book::head::width(book, s);
+    let mut j: usize = 0;
+    while j < k {
+        let c = book::head::column(book, s, j);
+        x[j] = dom[c];
+        j += 1;
     }
-    1
 }
 
 // The column of place j of sheet s struck to the values in y. The column as a bit, if it lost one.
@@ -39,6 +40,21 @@ fn struck(book: &[u8], first: usize, s: usize, j: usize, y: u32, dom: &mut [u32;
     0
 }
 
+// Every column of sheet s struck to the values in y. The columns that lost a value.
+fn strike_to(book: &[u8], first: usize, s: usize, y: &[u32; 4], dom: &mut [u32; 16]) -> u32
+    requires { ⌜ AtSheet (now book) first s × IsStore 16 (now dom) ⌝ }
+    ensures { λ r. ⌜ StruckTo (now (book .entry)) s (widthOf (now (book .entry)) s) (now (y .entry)) (now (dom .entry)) (now (dom .exit)) r ⌝ }
+{
+    let k = book::head::width(book, s);
+    let mut lost: u32 = 0;
+    let mut j: usize = 0;
+    while j < k {
+        lost = lost | struck(book, first, s, j, y[j], dom);
+        j += 1;
+    }
+    lost
+}
+
 // Every column of sheet s struck to what its rows carry. The columns that lost a value.
 fn strike(
     book: &[u8],
@@ -52,18 +68,11 @@ fn strike(
     requires { ⌜ AtSheet (now book) first s × Inside (now book) s (now live) × IndexOf s (now live) (now index) (now limit) × Sized (now live) (now index) (now limit) × IsStore 16 (now dom) ⌝ }
     ensures { λ r. ⌜ Struck (now (book .entry)) s (now (live .entry)) (now (dom .entry)) (now (dom .exit)) r ⌝ }
 {
-    let x = Four {
-        a: domain(book, first, s, 0, dom),
-        b: domain(book, first, s, 1, dom),
-        c: domain(book, first, s, 2, dom),
-        d: domain(book, first, s, 3, dom),
-    };
-    let y = carried(book, first, s, x, live, index, limit);
-    let a = struck(book, first, s, 0, y.a, dom);
-    let b = struck(book, first, s, 1, y.b, dom);
-    let c = struck(book, first, s, 2, y.c, dom);
-    let d = struck(book, first, s, 3, y.d, dom);
-    a | b | c | d
+    let mut x = [1u32; 4];
+    let mut y = [0u32; 4];
+    wanted(book, first, s, dom, &mut x);
+    carried(book, first, s, &x, &mut y, live, index, limit);
+    strike_to(book, first, s, &y, dom)
 }
 
 // Sheet s looked at, whose columns in `changed` lost values since it was last looked at. The columns that lose a value now.

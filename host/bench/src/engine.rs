@@ -2,7 +2,8 @@
 //!
 //! It walks rows as the library does. A sheet that waits has its valid rows cut by the columns that
 //! changed since it last looked, and if a row went, its columns are struck to what the rows left
-//! carry. The leaves differ by how full a word is: the rows of a full one are read straight on.
+//! carry. Only the leaves differ by how full a word is: the rows of a full one are read straight
+//! on, in loops that the compiler unrolls or turns into vector code.
 
 use crate::baseline;
 
@@ -47,18 +48,8 @@ struct Book<'a> {
     sheets_of: [u8; 16],
 }
 
-/// The number and the domains that `fitting_probe` gives. Values are gathered row by row.
+/// The number and the domains that `fitting_probe` gives.
 pub fn probe(book: &[u8], orders: &[u8], domains: &mut [u32; 16]) -> u64 {
-    run::<false>(book, orders, domains)
-}
-
-/// The same, with values gathered by functions that stand alone, which the compiler turns into
-/// vector code: four values of a row at once.
-pub fn vector_probe(book: &[u8], orders: &[u8], domains: &mut [u32; 16]) -> u64 {
-    run::<true>(book, orders, domains)
-}
-
-fn run<const VECTOR: bool>(book: &[u8], orders: &[u8], domains: &mut [u32; 16]) -> u64 {
     let number = baseline::check(book);
     if number >> 16 != 0 {
         return number;
@@ -71,7 +62,7 @@ fn run<const VECTOR: bool>(book: &[u8], orders: &[u8], domains: &mut [u32; 16]) 
         return 1 << 16;
     };
     let book = Book::of(head, blocks);
-    let mut now = opening::<VECTOR>(&book);
+    let mut now = opening(&book);
     // Made by the first mark: sixteen states are many bytes to clear for a list that has none.
     let mut saved = Vec::new();
     let mut refusal = 0;
@@ -83,7 +74,7 @@ fn run<const VECTOR: bool>(book: &[u8], orders: &[u8], domains: &mut [u32; 16]) 
         }
         let argument = usize::from((order >> 8) as u8);
         match order as u8 {
-            1 => narrow::<VECTOR>(&book, &mut now, argument, (order >> 32) as u32),
+            1 => narrow(&book, &mut now, argument, (order >> 32) as u32),
             2 => {
                 saved.reserve_exact(16 - saved.len());
                 saved.push(now);
@@ -154,7 +145,7 @@ fn rows_of(entry: &[u8; 8]) -> usize {
     usize::from(u16::from_le_bytes([entry[6], entry[7]]))
 }
 
-fn opening<const VECTOR: bool>(book: &Book) -> State {
+fn opening(book: &Book) -> State {
     let mut now = FAILED;
     for (domain, &count) in now.domains.iter_mut().zip(&book.head[8..24]) {
         *domain = ((1_u64 << count) - 1) as u32;
@@ -169,11 +160,11 @@ fn opening<const VECTOR: bool>(book: &Book) -> State {
         now.limits[s] = rows.div_ceil(64) as u8;
     }
     let all = ((1_u32 << entries.len()) - 1) as u8;
-    propagate::<VECTOR>(book, &mut now, [0; 8], all, all);
+    propagate(book, &mut now, [0; 8], all, all);
     now
 }
 
-fn narrow<const VECTOR: bool>(book: &Book, now: &mut State, column: usize, mask: u32) {
+fn narrow(book: &Book, now: &mut State, column: usize, mask: u32) {
     let old = now.domains[column];
     let new = old & mask;
     if new == old {
@@ -185,18 +176,12 @@ fn narrow<const VECTOR: bool>(book: &Book, now: &mut State, column: usize, mask:
     }
     now.domains[column] = new;
     let changed = book.columns.map(|columns| columns & 1 << column);
-    propagate::<VECTOR>(book, now, changed, book.sheets_of[column], 0);
+    propagate(book, now, changed, book.sheets_of[column], 0);
 }
 
 /// Looks at the waiting sheets until none waits. Each has the columns that changed since it last
 /// looked; a fresh one has its columns struck even if none of its rows is cut.
-fn propagate<const VECTOR: bool>(
-    book: &Book,
-    now: &mut State,
-    mut changed: [u16; 8],
-    mut waiting: u8,
-    fresh: u8,
-) {
+fn propagate(book: &Book, now: &mut State, mut changed: [u16; 8], mut waiting: u8, fresh: u8) {
     let mut fresh = fresh;
     while waiting != 0 {
         let s = waiting.trailing_zeros() as usize;
@@ -207,7 +192,7 @@ fn propagate<const VECTOR: bool>(
             return;
         }
         if was_cut || fresh >> s & 1 == 1 {
-            let lost = strike::<VECTOR>(sheet, s, now);
+            let lost = strike(sheet, s, now);
             for (changed, columns) in changed.iter_mut().zip(book.columns) {
                 *changed |= columns & lost;
             }
@@ -296,7 +281,7 @@ fn kept_of_set(cells: &[Cell], next_block: u32, place: usize, domain: u32, word:
 }
 
 /// Pass 2: strikes the values that no valid row carries, and gives the columns that lost one.
-fn strike<const VECTOR: bool>(sheet: &Sheet, s: usize, now: &mut State) -> u16 {
+fn strike(sheet: &Sheet, s: usize, now: &mut State) -> u16 {
     let mut wanted = [1; 4];
     for (wanted, &column) in wanted.iter_mut().zip(&sheet.columns[..sheet.width]) {
         *wanted = now.domains[usize::from(column)];
@@ -305,7 +290,7 @@ fn strike<const VECTOR: bool>(sheet: &Sheet, s: usize, now: &mut State) -> u16 {
     for &number in &now.index[s][..usize::from(now.limits[s])] {
         let number = usize::from(number);
         let (first, next_block) = cells_of(number);
-        gather::<VECTOR>(
+        gather(
             &sheet.cells[first..],
             next_block,
             now.valid[s][number],
@@ -328,14 +313,11 @@ fn strike<const VECTOR: bool>(sheet: &Sheet, s: usize, now: &mut State) -> u16 {
 }
 
 /// Adds the values that the rows of a word carry.
-fn gather<const VECTOR: bool>(cells: &[Cell], next_block: u32, word: u64, seen: &mut [u32; 4]) {
+fn gather(cells: &[Cell], next_block: u32, word: u64, seen: &mut [u32; 4]) {
     let run = word.trailing_ones().min(next_block) as usize;
     let mut left = word;
     if run > 40 {
-        let carried = match VECTOR {
-            true => alone_by_all(&cells[..run]),
-            false => carried_by_all(&cells[..run]),
-        };
+        let carried = carried_by_all(&cells[..run]);
         for place in 0..4 {
             seen[place] |= carried[place];
         }
@@ -344,27 +326,14 @@ fn gather<const VECTOR: bool>(cells: &[Cell], next_block: u32, word: u64, seen: 
         }
         left = word >> run << run;
     }
-    let carried = match VECTOR {
-        true => alone_by_set(cells, next_block, left),
-        false => carried_by_set(cells, next_block, left),
-    };
+    let carried = carried_by_set(cells, next_block, left);
     for place in 0..4 {
         seen[place] |= carried[place];
     }
 }
 
-/// Inlined, this and the next would be no vector code.
+/// Inlined, this and the next are no longer vector code.
 #[inline(never)]
-fn alone_by_all(cells: &[Cell]) -> [u32; 4] {
-    carried_by_all(cells)
-}
-
-#[inline(never)]
-fn alone_by_set(cells: &[Cell], next_block: u32, word: u64) -> [u32; 4] {
-    carried_by_set(cells, next_block, word)
-}
-
-#[inline(always)]
 fn carried_by_all(cells: &[Cell]) -> [u32; 4] {
     let mut carried = [0; 4];
     for cell in cells {
@@ -375,7 +344,7 @@ fn carried_by_all(cells: &[Cell]) -> [u32; 4] {
     carried
 }
 
-#[inline(always)]
+#[inline(never)]
 fn carried_by_set(cells: &[Cell], next_block: u32, word: u64) -> [u32; 4] {
     let mut carried = [0; 4];
     let mut left = word;
@@ -392,7 +361,7 @@ fn carried_by_set(cells: &[Cell], next_block: u32, word: u64) -> [u32; 4] {
 
 #[cfg(test)]
 mod tests {
-    use super::{probe, vector_probe};
+    use super::probe;
     use conformance::Run;
 
     #[test]
@@ -403,12 +372,10 @@ mod tests {
             let step = orders.len() / 4 / 8 * 8 + 8;
             for length in (0..orders.len()).step_by(step).chain([orders.len()]) {
                 let [mut shown, mut expected] = [[!0; 16]; 2];
+                let number = probe(&book, &orders[..length], &mut shown);
                 let right = reference::probe(&book, &orders[..length], &mut expected);
-                for probe in [probe, vector_probe] {
-                    let number = probe(&book, &orders[..length], &mut shown);
-                    assert_eq!(number, right, "seed {seed}, {length} bytes");
-                    assert_eq!(shown, expected, "seed {seed}, {length} bytes");
-                }
+                assert_eq!(number, right, "seed {seed}, {length} bytes");
+                assert_eq!(shown, expected, "seed {seed}, {length} bytes");
             }
         }
     }

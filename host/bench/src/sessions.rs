@@ -14,8 +14,8 @@ const TURNS: usize = 85;
 
 type Probe = fn(&[u8], &[u8], &mut [u32; 16]) -> u64;
 
-/// The library, the hand-written engine, and the same with vector code where it gathers values.
-const PROBES: [Probe; 3] = [probe::probe, engine::probe, engine::vector_probe];
+/// The library, then the hand-written engine.
+const PROBES: [Probe; 2] = [probe::probe, engine::probe];
 
 /// A book and the lists that are timed on it.
 struct Subject {
@@ -31,8 +31,8 @@ struct Subject {
 pub fn table() {
     let subjects = subjects();
     agree(&subjects);
-    println!("| book | what | library ns | hand-written ns | ratio | ratio of least times | with vector code ns | ratio |");
-    println!("|---|---|---:|---:|---:|---:|---:|---:|");
+    println!("| book | what | library ns | hand-written ns | ratio | ratio of least times |");
+    println!("|---|---|---:|---:|---:|---:|");
     for subject in &subjects {
         rows(subject);
     }
@@ -53,19 +53,14 @@ fn rows(subject: &Subject) {
     let times = race([
         &check[0],
         &check[1],
-        &check[2],
         &open[0],
         &open[1],
-        &open[2],
         &narrow[0],
         &narrow[1],
-        &narrow[2],
         &to_and_fro[0],
         &to_and_fro[1],
-        &to_and_fro[2],
     ]);
-    let [check, open, narrow, to_and_fro] =
-        [0, 3, 6, 9].map(|i| [&times[i][..], &times[i + 1], &times[i + 2]]);
+    let [check, open, narrow, to_and_fro] = [0, 2, 4, 6].map(|i| [&times[i][..], &times[i + 1]]);
     let name = &subject.name;
     let narrows = subject.narrows.len() as f64;
     row(name, "opening", added(open, 1.0, check, 1.0));
@@ -74,9 +69,10 @@ fn rows(subject: &Subject) {
     row(name, "mark, narrow, back", turns);
 }
 
-/// What each of so many parts adds to so many calls: median and least time of each side.
-fn added(whole: [&[f64]; 3], calls: f64, without: [&[f64]; 3], parts: f64) -> [[f64; 2]; 3] {
-    [0, 1, 2].map(|side| {
+/// What each of so many parts adds to so many calls: median and least time of the library, then of
+/// the hand-written engine.
+fn added(whole: [&[f64]; 2], calls: f64, without: [&[f64]; 2], parts: f64) -> [[f64; 2]; 2] {
+    [0, 1].map(|side| {
         let part = |whole: f64, without: f64| (whole - calls * without) / parts;
         let rounds = whole[side].iter().zip(without[side]);
         let parts: Vec<f64> = rounds.map(|(&whole, &rest)| part(whole, rest)).collect();
@@ -85,15 +81,13 @@ fn added(whole: [&[f64]; 3], calls: f64, without: [&[f64]; 3], parts: f64) -> [[
     })
 }
 
-fn row(name: &str, what: &str, [library, engine, vector]: [[f64; 2]; 3]) {
+fn row(name: &str, what: &str, [library, engine]: [[f64; 2]; 2]) {
     println!(
-        "| {name} | {what} | {:.0} | {:.0} | {:.2} | {:.2} | {:.0} | {:.2} |",
+        "| {name} | {what} | {:.0} | {:.0} | {:.2} | {:.2} |",
         library[0],
         engine[0],
         library[0] / engine[0],
-        library[1] / engine[1],
-        vector[0],
-        library[0] / vector[0]
+        library[1] / engine[1]
     );
 }
 
@@ -152,7 +146,7 @@ fn subject(name: String, book: Book) -> Subject {
     }
 }
 
-/// All must show the same before their times say anything.
+/// The two must show the same before their times say anything.
 fn agree(subjects: &[Subject]) {
     for subject in subjects {
         let opening = agreed(&subject.book, &[]);
@@ -170,11 +164,10 @@ fn agree(subjects: &[Subject]) {
 }
 
 fn agreed(book: &[u8], orders: &[u8]) -> (u64, [u32; 16]) {
-    let [library, engine, vector] = PROBES.map(|probe| {
+    let [library, engine] = PROBES.map(|probe| {
         let mut domains = [!0; 16];
         (probe(book, orders, &mut domains), domains)
     });
     assert_eq!(library, engine);
-    assert_eq!(library, vector);
     library
 }

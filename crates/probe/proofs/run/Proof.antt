@@ -4,7 +4,7 @@ use native.Mathlib.Omega.{arith}
 use lib.ListN.{length}
 use borrow.Author.Needs.{needs}
 use Rattle.engine.proofs.Lists.{order-part}
-use Rattle.engine.proofs.Steps.{back-holds, back-room, mark-holds, mark-room, narrow-inside, step-back, step-mark, step-narrow, step-other, step-refused}
+use Rattle.engine.proofs.Steps.{back-holds, back-room, mark-holds, mark-room, narrow-holds, narrow-inside, step-back, step-mark, step-narrow, step-other, step-refused}
 use Rattle.probe.specs.Probes.{Shown}
 use Rattle.probe.proofs.Shows.{shown-more, shown-none}
 use Rattle.probe.proofs.run.Statement.{statement}
@@ -61,14 +61,14 @@ wide-requires c κs = search needs
 mask-of-requires : tie.Need-mask-of-requires Inv-loop μ-loop
 mask-of-requires c κs = search needs
 
-narrow-requires : tie.Need-narrow-requires Inv-loop μ-loop
-narrow-requires c κs = (c .before .before .before .before .before .before .before .before .before .before .before .before .before .pre .0, c .before .before .before .before .before .before .before .before .before .before .before .before .before .pre .1, rw (c .before .wide .ensures .0) (narrow-inside _ _ _ (c .before .before .before .before .before .before .refusal .ensures) (c .before .before .before .before .before .if1 .left) (record { stands = _; holds = c .before .before .before .before .before .before .before .before .before .loop .inv .0 .holds }) (c .before .before .before .if2 .taken)), record { stands = _; holds = c .before .before .before .before .before .before .before .before .before .loop .inv .0 .holds })
+narrowed-requires : tie.Need-narrowed-requires Inv-loop μ-loop
+narrowed-requires c κs = (c .before .before .before .before .before .before .before .before .before .before .before .before .before .before .pre .0, c .before .before .before .before .before .before .before .before .before .before .before .before .before .before .pre .1, rw (c .before .wide .ensures .0) (narrow-inside _ _ _ (c .before .before .before .before .before .before .before .refusal .ensures) (c .before .before .before .before .before .before .if1 .left) (record { stands = _; holds = c .before .before .before .before .before .before .before .before .before .before .loop .inv .0 .holds }) (c .before .before .before .before .if2 .taken)), record { stands = _; is = c .before .before .before .before .before .before .before .before .before .before .loop .inv .0 .holds .current })
 
 loop-less-2 : tie.Need-loop-less-2 Inv-loop μ-loop
 loop-less-2 c = search needs
 
 loop-again-2 : tie.Need-loop-again-2 Inv-loop μ-loop
-loop-again-2 c = (shown-more (order-part (c .before .before .before .before .before .before .before .before .before .before .before .before .before .before .args .orders .now) (c .before .before .before .before .before .before .before .before .before .before .loop .i) _ _ refl refl) (c .before .before .before .before .before .before .before .before .before .before .loop .inv .0) (c .before .before .before .before .before .before .before .refusal .ensures) (step-narrow _ _ _ (c .before .before .before .before .before .before .before .refusal .ensures) (c .before .before .before .before .before .before .if1 .left) _ (c .before .before .before .before .if2 .taken) (c .before .before .wide .ensures .0) (c .before .mask-of .ensures) (c .narrow .ensures)), omega (arith, c .before .before .before .before .before .before .before .before .before .loop-test .taken))
+loop-again-2 c = (shown-more (order-part (c .before .before .before .before .before .before .before .before .before .before .before .before .before .before .before .args .orders .now) (c .before .before .before .before .before .before .before .before .before .before .before .loop .i) _ _ refl refl) (c .before .before .before .before .before .before .before .before .before .before .before .loop .inv .0) (c .before .before .before .before .before .before .before .before .refusal .ensures) (step-narrow _ _ _ (c .before .before .before .before .before .before .before .before .refusal .ensures) (c .before .before .before .before .before .before .before .if1 .left) _ (c .before .before .before .before .before .if2 .taken) (c .before .before .wide .ensures .0) (c .before .mask-of .ensures) (narrow-holds _ _ (c .narrowed .ensures) refl refl)), omega (arith, c .before .before .before .before .before .before .before .before .before .before .loop-test .taken))
 
 shared-slice-read-if3 : tie.Need-shared-slice-read-if3 Inv-loop μ-loop
 shared-slice-read-if3 c = search needs
@@ -145,7 +145,7 @@ run-spec =
     shared-slice-read-wide
     wide-requires
     mask-of-requires
-    narrow-requires
+    narrowed-requires
     loop-less-2
     loop-again-2
     shared-slice-read-if3

@@ -1,6 +1,6 @@
 use native.Mathlib.Omega.{arith}
 use borrow.Author.Needs.{needs}
-use Rattle.words.proofs.Walks.{far-readable, gathered-both, gathered-near, near-lt, near-rows}
+use Rattle.words.proofs.Walks.{far-readable, gathered-both, gathered-near, near-lt, near-rows, of-added}
 use Rattle.words.proofs.cells.gathered.Statement.{statement}
 use Rattle.words.proofs.cells.gathered.Tie as tie
 
@@ -14,19 +14,22 @@ mul-gathered-near : tie.Need-mul-gathered-near
 mul-gathered-near c = search needs
 
 add-gathered-near-2 : tie.Need-add-gathered-near-2
-add-gathered-near-2 c = search (needs, c .before .pre .2)
+add-gathered-near-2 c = search needs
 
 gathered-near-requires : tie.Need-gathered-near-requires
-gathered-near-requires c κs = (near-rows _ _ _ _ (c .before .pre .0) (c .before .fits .word .fits) (c .before .pre .1), near-lt (c .before .args .word))
+gathered-near-requires c κs = (near-rows _ _ _ _ (c .before .before .pre .0) (c .before .before .fits .word .fits) (c .before .before .pre .1), near-lt (c .before .before .args .word), c .before .before .pre .3)
 
 returns : tie.Need-returns
-returns c = gathered-near (c .before .before .before .args .book .now) (c .before .before .before .args .first) (c .before .before .before .args .w) (c .before .before .before .args .word) (c .before .before .before .pre .0) (c .before .before .before .fits .word .fits) (c .if1 .taken) (c .before .gathered-near .ensures)
+returns c = (gathered-near (c .before .before .before .before .args .book .now) (c .before .before .before .before .args .first) (c .before .before .before .before .args .w) (c .before .before .before .before .args .word) (c .before .before .before .before .pre .0) (c .before .before .before .before .fits .word .fits) (c .if1 .taken) (c .before .gathered-near .ensures .0), c .before .gathered-near .ensures .1)
 
 gathered-far-requires : tie.Need-gathered-far-requires
-gathered-far-requires c κs = (omega (arith, c .before .before .before .pre .0), far-readable _ _ _ _ (c .before .before .before .pre .0) (c .before .before .before .fits .word .fits) (c .before .before .before .pre .1))
+gathered-far-requires c κs = (omega (arith, c .before .before .before .before .before .pre .0), far-readable _ _ _ _ (c .before .before .before .before .before .pre .0) (c .before .before .before .before .before .fits .word .fits) (c .before .before .before .before .before .pre .1))
+
+add-requires : tie.Need-add-requires
+add-requires c κs = search needs
 
 returns-2 : tie.Need-returns-2
-returns-2 c = gathered-both (c .before .before .before .before .args .book .now) (c .before .before .before .before .args .first) (c .before .before .before .before .args .w) (c .before .before .before .before .args .word) (c .before .before .before .before .pre .0) (c .before .before .before .before .fits .word .fits) (c .before .before .gathered-near .ensures) (c .gathered-far .ensures)
+returns-2 c = (gathered-both (c .before .before .before .before .before .before .before .args .book .now) (c .before .before .before .before .before .before .before .args .first) (c .before .before .before .before .before .before .before .args .w) (c .before .before .before .before .before .before .before .args .word) (c .before .before .before .before .before .before .before .pre .0) (c .before .before .before .before .before .before .before .fits .word .fits) (c .before .before .before .before .gathered-near .ensures .0) (of-added (c .before .gathered-far .ensures) (c .add .ensures)), c .add .ensures .small)
 
 pub gathered-spec : {M : Type 1} → statement M
 gathered-spec =
@@ -39,4 +42,5 @@ gathered-spec =
     gathered-near-requires
     returns
     gathered-far-requires
+    add-requires
     returns-2)

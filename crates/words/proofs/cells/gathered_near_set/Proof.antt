@@ -9,7 +9,7 @@ use Rattle.words.proofs.cells.gathered_near_set.Statement.{statement}
 use Rattle.words.proofs.cells.gathered_near_set.Tie as tie
 
 abbrev Inv-loop : tie.InvT-loop
-Inv-loop book base word left₀ g₀ left g = GatheredOf (λ k j. byteAt book (base + 4 * k + j)) (passed word left) (fourOf (g₀ .a) (g₀ .b) (g₀ .c) (g₀ .d)) (fourOf (g .a) (g .b) (g .c) (g .d)) × Part left word
+Inv-loop book base word left₀ g₀ left g = GatheredOf (λ k j. byteAt book (base + 4 * k + j)) (passed word left) (fourOf 0 0 0 0) (fourOf (g .a) (g .b) (g .c) (g .d)) × Part left word
 
 abbrev μ-loop : tie.MeasureT-loop
 μ-loop book base word left₀ g₀ left g = left

@@ -10,7 +10,7 @@ use Rattle.words.proofs.cells.gathered_run.Statement.{statement}
 use Rattle.words.proofs.cells.gathered_run.Tie as tie
 
 abbrev Inv-loop : tie.InvT-loop
-Inv-loop book base n g₀ k₀ g k = GatheredOf (λ k j. byteAt book (base + 4 * k + j)) (λ i. ltb i k) (fourOf (g₀ .a) (g₀ .b) (g₀ .c) (g₀ .d)) (fourOf (g .a) (g .b) (g .c) (g .d)) × (k ≤ n)
+Inv-loop book base n g₀ k₀ g k = GatheredOf (λ k j. byteAt book (base + 4 * k + j)) (λ i. ltb i k) (fourOf 0 0 0 0) (fourOf (g .a) (g .b) (g .c) (g .d)) × (k ≤ n)
 
 abbrev μ-loop : tie.MeasureT-loop
 μ-loop book base n g₀ k₀ g k = n - k

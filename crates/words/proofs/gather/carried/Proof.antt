@@ -2,24 +2,24 @@ use mathlib.Core.Path.{refl}
 use Prim.Native.Nat.{_-_, _<_, _≤_}
 use native.Mathlib.Omega.{arith}
 use borrow.Author.Needs.{needs}
-use Rattle.words.specs.Cells.{fourOf}
+use Rattle.words.specs.Cells.{SmallSets}
 use Rattle.words.proofs.Cuts.{word-readable, word-there}
-use Rattle.words.proofs.Gathers.{Supporting, supporting-all, supporting-covered, supporting-more, supporting-start}
+use Rattle.words.proofs.Gathers.{Supporting, no-sets, supporting-all, supporting-covered, supporting-more, supporting-start}
 use Rattle.words.proofs.Places.{eight}
 use Rattle.words.proofs.gather.carried.Statement.{statement}
 use Rattle.words.proofs.gather.carried.Tie as tie
 
 abbrev Inv-loop : tie.InvT-loop
-Inv-loop book first s x live index limit n seen₀ p₀ seen p = Supporting book s p live index (fourOf (seen .a) (seen .b) (seen .c) (seen .d)) × (p ≤ n)
+Inv-loop book first s x seen₀ live index limit n p₀ seen p = Supporting book s p live index seen × SmallSets seen × (p ≤ n)
 
 abbrev μ-loop : tie.MeasureT-loop
-μ-loop book first s x live index limit n seen₀ p₀ seen p = n - p
+μ-loop book first s x seen₀ live index limit n p₀ seen p = n - p
 
 nonzero-words-requires : tie.Need-nonzero-words-requires Inv-loop μ-loop
 nonzero-words-requires c κs = eight (c .before .pre .0)
 
 loop-holds : tie.Need-loop-holds Inv-loop μ-loop
-loop-holds c = (supporting-start _ _ _ _, omega arith)
+loop-holds c = (supporting-start _ _ _ _ (c .before .before .pre .4), rw (c .before .before .pre .4) no-sets, omega arith)
 
 word-number-requires : tie.Need-word-number-requires Inv-loop μ-loop
 word-number-requires c κs = let l : c .before .loop .p < 8 = omega (arith, c .before .before .before .before .pre .2 .few, c .before .before .nonzero-words .ensures .0, c .loop-test .taken) in (eight (c .before .before .before .before .pre .0), l, c .before .before .before .before .pre .2 .each _ l)
@@ -37,13 +37,13 @@ element-copy-out-gathered : tie.Need-element-copy-out-gathered Inv-loop μ-loop
 element-copy-out-gathered c = let q = eight (c .before .before .before .before .before .pre .0) in omega (arith, c .word-number .ensures .1)
 
 gathered-requires : tie.Need-gathered-requires Inv-loop μ-loop
-gathered-requires c κs = let l : c .before .before .before .loop .p < 8 = omega (arith, c .before .before .before .before .before .before .pre .2 .few, c .before .before .before .before .nonzero-words .ensures .0, c .before .before .loop-test .taken) in (c .before .word-number .ensures .1, word-readable (c .before .before .before .before .before .before .pre .0) _ (c .before .before .before .before .before .before .pre .1) _ (c .before .word-number .ensures .1) (c .before .before .before .before .before .before .pre .3 .bits _), word-there (c .before .before .before .before .before .before .pre .0) _ (c .before .before .before .before .before .before .pre .1) _ (c .before .word-number .ensures .1) (c .before .before .before .before .before .before .pre .3 .bits _) (rw (c .before .word-number .ensures .0) (c .before .before .before .before .before .before .pre .2 .limit _ l .0 (omega (arith, c .before .before .before .before .nonzero-words .ensures .0, c .before .before .loop-test .taken)))))
+gathered-requires c κs = let l : c .before .before .before .before .loop .p < 8 = omega (arith, c .before .before .before .before .before .before .before .pre .2 .few, c .before .before .before .before .before .nonzero-words .ensures .0, c .before .before .before .loop-test .taken) in (c .before .before .word-number .ensures .1, word-readable (c .before .before .before .before .before .before .before .pre .0) _ (c .before .before .before .before .before .before .before .pre .1) _ (c .before .before .word-number .ensures .1) (c .before .before .before .before .before .before .before .pre .3 .bits _), word-there (c .before .before .before .before .before .before .before .pre .0) _ (c .before .before .before .before .before .before .before .pre .1) _ (c .before .before .word-number .ensures .1) (c .before .before .before .before .before .before .before .pre .3 .bits _) (rw (c .before .before .word-number .ensures .0) (c .before .before .before .before .before .before .before .pre .2 .limit _ l .0 (omega (arith, c .before .before .before .before .before .nonzero-words .ensures .0, c .before .before .before .loop-test .taken)))), c .before .before .before .before .loop .inv .1)
 
 covered-requires : tie.Need-covered-requires Inv-loop μ-loop
 covered-requires c κs = search needs
 
 returns : tie.Need-returns Inv-loop μ-loop
-returns c = supporting-covered (c .before .before .before .before .before .before .before .before .before .pre .0) (c .before .before .before .before .before .before .before .before .before .pre .2) (c .before .before .before .before .before .before .before .before .before .pre .3) (supporting-more (c .before .before .before .before .before .before .before .before .before .pre .0) (c .before .before .before .before .before .before .before .before .before .pre .2) (c .before .before .before .before .before .before .before .before .before .pre .3) (omega (arith, c .before .before .before .before .before .before .before .nonzero-words .ensures .0, c .before .before .before .before .before .loop-test .taken)) (c .before .before .before .before .word-number .ensures .0) refl (c .before .before .before .before .before .before .loop .inv .0) (c .before .before .gathered .ensures)) (c .before .covered .ensures (c .if1 .taken))
+returns c = supporting-covered (c .before .before .before .before .before .before .before .before .before .before .before .pre .0) (c .before .before .before .before .before .before .before .before .before .before .before .pre .2) (c .before .before .before .before .before .before .before .before .before .before .before .pre .3) (supporting-more (c .before .before .before .before .before .before .before .before .before .before .before .pre .0) (c .before .before .before .before .before .before .before .before .before .before .before .pre .2) (c .before .before .before .before .before .before .before .before .before .before .before .pre .3) (omega (arith, c .before .before .before .before .before .before .before .before .before .nonzero-words .ensures .0, c .before .before .before .before .before .before .before .loop-test .taken)) (c .before .before .before .before .before .before .word-number .ensures .0) refl (c .before .before .before .before .before .before .before .before .loop .inv .0) (c .before .before .before .gathered .ensures .0)) (c .before .covered .ensures (c .if1 .taken))
 
 add-p : tie.Need-add-p Inv-loop μ-loop
 add-p c = search needs
@@ -52,7 +52,7 @@ loop-less : tie.Need-loop-less Inv-loop μ-loop
 loop-less c = search needs
 
 loop-again : tie.Need-loop-again Inv-loop μ-loop
-loop-again c = (supporting-more (c .before .before .before .before .before .before .before .before .before .pre .0) (c .before .before .before .before .before .before .before .before .before .pre .2) (c .before .before .before .before .before .before .before .before .before .pre .3) (omega (arith, c .before .before .before .before .before .before .before .nonzero-words .ensures .0, c .before .before .before .before .before .loop-test .taken)) (c .before .before .before .before .word-number .ensures .0) refl (c .before .before .before .before .before .before .loop .inv .0) (c .before .before .gathered .ensures), omega (arith, c .before .before .before .before .before .loop-test .taken))
+loop-again c = (supporting-more (c .before .before .before .before .before .before .before .before .before .before .before .pre .0) (c .before .before .before .before .before .before .before .before .before .before .before .pre .2) (c .before .before .before .before .before .before .before .before .before .before .before .pre .3) (omega (arith, c .before .before .before .before .before .before .before .before .before .nonzero-words .ensures .0, c .before .before .before .before .before .before .before .loop-test .taken)) (c .before .before .before .before .before .before .word-number .ensures .0) refl (c .before .before .before .before .before .before .before .before .loop .inv .0) (c .before .before .before .gathered .ensures .0), c .before .before .before .gathered .ensures .1, omega (arith, c .before .before .before .before .before .before .before .loop-test .taken))
 
 returns-2 : tie.Need-returns-2 Inv-loop μ-loop
 returns-2 c = supporting-all (c .before .before .before .before .pre .0) (c .before .before .before .before .pre .2) (c .before .before .before .before .pre .3) (omega (arith, c .before .before .nonzero-words .ensures .0, c .loop-test .left)) (c .before .loop .inv .0)

@@ -9,7 +9,7 @@ use lib.ListN.{length, getD}
 use Rattle.model.specs.Masks.{maskOf}
 use Rattle.model.specs.Stores.{has}
 use Rattle.model.specs.Books.{Sheet, Book}
-use Rattle.model.specs.Orders.{Entry, depth, before, domains}
+use Rattle.model.specs.Orders.{Entry, domains}
 
 -- "A row lies in a box when each of its values is in its column's domain": one value for each of these columns
 unfoldable pub valid : List ℕ → List ℕ → List ℕ → Bool
@@ -68,9 +68,3 @@ pub record StateOf (b : Book) (D : List ℕ) (a : Arrays) : Type 0 where
 -- "its domains … and live rows are those of the standing list and its index keeps the invariant above"
 abbrev pub StateHolds : Book → List Entry → Arrays → Type 0
 StateHolds b L a = StateOf b (domains b L) a
-
--- a session: its state and depth are those of the trail, and for each checkpoint it has saved the state of the trail before it
-pub record SessionHolds (b : Book) (L : List Entry) (now : Arrays) (marks : ℕ) (saved : ℕ → Arrays) : Type 0 where
-  pub current : StateHolds b L now
-  pub deep : marks ≡ depth L
-  pub marked : (k : ℕ) → k < depth L → StateHolds b (before (suc k) L) (saved k)

@@ -17,7 +17,7 @@ sub-self : tie.Need-sub-self
 sub-self c = search needs
 
 returns : tie.Need-returns
-returns c = back-holds _ _ refl refl refl (c .before .pre .0) (c .before .pre .1)
+returns c = back-holds _ _ refl refl refl (search needs) (search needs)
 
 pub back-spec : {M : Type 1} → statement M
 back-spec = tie.close (tie.spec sub-st mul-st element-copy-out-st sub-self returns)

@@ -14,7 +14,7 @@ add-self : tie.Need-add-self
 add-self c = search needs
 
 returns : tie.Need-returns
-returns c = mark-holds _ _ refl refl refl (c .before .pre)
+returns c = mark-holds _ _ refl refl refl (search needs)
 
 pub mark-spec : {M : Type 1} → statement M
 mark-spec = tie.close (tie.spec mul-st element-set-from-st add-self returns)

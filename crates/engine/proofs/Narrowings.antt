@@ -33,9 +33,10 @@ use Rattle.words.proofs.Walks.{shifted-one}
 use Rattle.engine.specs.Layouts.{LayoutOf}
 use Rattle.engine.specs.Propagation.{Ready, Settled, arrays, closureIn, storeIn}
 use Rattle.engine.specs.Sessions.{Emptied, Narrows, arraysOf}
-use Rattle.engine.specs.declared.state.State.{State}
 use Rattle.engine.specs.Worklists.{WaitingFor}
-use Rattle.engine.proofs.Turns.{at-sheet, columns-count, empty-domains, empty-sized, empty-state, no-value, sheets-count, store-in, valid-within}
+use Rattle.engine.specs.declared.state.State.{State}
+use Rattle.engine.proofs.Emptied.{empty-domains, empty-sized, empty-state, no-value}
+use Rattle.engine.proofs.Turns.{at-sheet, columns-count, sheets-count, store-in, valid-within}
 use Rattle.engine.proofs.Worklists.{eight-sheets, touched-sheet, untouched-column}
 
 module _ (b : List ℕ) (acc : Accepted b) (L : List Entry) {D W X N : List ℕ} (h : StateHolds (bookOf b) L (arrays D W X N))

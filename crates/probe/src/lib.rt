@@ -48,15 +48,10 @@ fn run(book: &[u8], first: &[usize; 8], mask: &[u32; 8], orders: &[u8]) -> Ran
         if last != 0 {
             continue;
         }
+        let m = book::fields::wide(order[1]);
         if order[0] == 1 {
             let st = s.now;
-            let t = st.narrowed(
-                book,
-                first,
-                mask,
-                book::fields::wide(order[1]),
-                mask_of(order),
-            );
+            let t = st.narrowed(book, first, mask, m, mask_of(order));
             s.now = t;
             continue;
         }
@@ -67,7 +62,6 @@ fn run(book: &[u8], first: &[usize; 8], mask: &[u32; 8], orders: &[u8]) -> Ran
             continue;
         }
         if order[0] == 3 {
-            let m = book::fields::wide(order[1]);
             let st = s.saved[m - 1];
             s.now = st;
             s.depth = m - 1;

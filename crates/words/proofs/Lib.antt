@@ -1,5 +1,6 @@
 pub mod Ones
 pub mod Walks
+pub mod Collects
 pub mod Places
 pub mod Indexes
 pub mod Cuts

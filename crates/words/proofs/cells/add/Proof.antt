@@ -1,6 +1,6 @@
 use native.Mathlib.Omega.{arith}
 use borrow.Author.Needs.{needs}
-use Rattle.words.proofs.Walks.{sets-joined}
+use Rattle.words.proofs.Collects.{sets-joined}
 use Rattle.words.proofs.cells.add.Statement.{statement}
 use Rattle.words.proofs.cells.add.Tie as tie
 

@@ -1,6 +1,7 @@
 use native.Mathlib.Omega.{arith}
 use borrow.Author.Needs.{needs}
-use Rattle.words.proofs.Walks.{far-readable, gathered-both, gathered-near, near-lt, near-rows, of-added}
+use Rattle.words.proofs.Collects.{gathered-both, gathered-near, near-rows, of-added}
+use Rattle.words.proofs.Walks.{far-readable, near-lt}
 use Rattle.words.proofs.cells.gathered.Statement.{statement}
 use Rattle.words.proofs.cells.gathered.Tie as tie
 

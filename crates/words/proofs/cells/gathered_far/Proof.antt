@@ -3,7 +3,8 @@ use Prim.Native.Nat.{_+_, ℕ}
 use borrow.Author.Needs.{needs}
 use Rattle.model.specs.Masks.{Cleared}
 use Rattle.words.specs.Cells.{GatheredOf, cellAt, fourOf}
-use Rattle.words.proofs.Walks.{Part, of-none, of-row, of-same, part-cleared, passed, passed-end, passed-start, passed-turn, whole}
+use Rattle.words.proofs.Collects.{of-none, of-row, of-same, passed, passed-end, passed-start, passed-turn}
+use Rattle.words.proofs.Walks.{Part, part-cleared, whole}
 use Rattle.words.proofs.cells.gathered_far.Statement.{statement}
 use Rattle.words.proofs.cells.gathered_far.Tie as tie
 

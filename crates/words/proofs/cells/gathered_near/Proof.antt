@@ -2,7 +2,7 @@ use mathlib.Core.Path.{_∙_, sym}
 use borrow.Author.Needs.{needs}
 use Rattle.model.specs.Masks.{bit}
 use Rattle.model.proofs.Tests.{and-l}
-use Rattle.words.proofs.Walks.{of-added, of-join, run-joined}
+use Rattle.words.proofs.Collects.{of-added, of-join, run-joined}
 use Rattle.words.proofs.cells.gathered_near.Statement.{statement}
 use Rattle.words.proofs.cells.gathered_near.Tie as tie
 

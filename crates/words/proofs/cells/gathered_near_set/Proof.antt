@@ -4,7 +4,8 @@ use borrow.Author.Needs.{needs}
 use Rattle.model.specs.Masks.{Cleared}
 use Rattle.book.specs.Fields.{byteAt}
 use Rattle.words.specs.Cells.{GatheredOf, fourOf}
-use Rattle.words.proofs.Walks.{Part, of-none, of-row, of-same, part-cleared, passed, passed-end, passed-start, passed-turn, whole}
+use Rattle.words.proofs.Collects.{of-none, of-row, of-same, passed, passed-end, passed-start, passed-turn}
+use Rattle.words.proofs.Walks.{Part, part-cleared, whole}
 use Rattle.words.proofs.cells.gathered_near_set.Statement.{statement}
 use Rattle.words.proofs.cells.gathered_near_set.Tie as tie
 

@@ -5,7 +5,7 @@ use lib.Dec.{ltb}
 use borrow.Author.Needs.{needs}
 use Rattle.book.specs.Fields.{byteAt}
 use Rattle.words.specs.Cells.{GatheredOf, fourOf}
-use Rattle.words.proofs.Walks.{of-none, of-row, of-same, run-more, run-none}
+use Rattle.words.proofs.Collects.{of-none, of-row, of-same, run-more, run-none}
 use Rattle.words.proofs.cells.gathered_run.Statement.{statement}
 use Rattle.words.proofs.cells.gathered_run.Tie as tie
 

@@ -1,6 +1,6 @@
 use native.Mathlib.Omega.{arith}
 use borrow.Author.Needs.{needs}
-use Rattle.words.proofs.Walks.{past-run}
+use Rattle.words.proofs.Collects.{past-run}
 use Rattle.words.proofs.cells.past_run.Statement.{statement}
 use Rattle.words.proofs.cells.past_run.Tie as tie
 

@@ -1,6 +1,6 @@
 use mathlib.Core.Path.{refl}
 use borrow.Author.Needs.{needs}
-use Rattle.words.proofs.Walks.{run-of}
+use Rattle.words.proofs.Collects.{run-of}
 use Rattle.words.proofs.cells.run_of.Statement.{statement}
 use Rattle.words.proofs.cells.run_of.Tie as tie
 

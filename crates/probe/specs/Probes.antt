@@ -14,7 +14,7 @@ use Rattle.engine.specs.Lists.{ordersOf, ordersTo}
 use Rattle.engine.specs.Holds.{Holds}
 use Rattle.engine.specs.declared.session.Session.{Session}
 
--- "10 if the orders aren't a multiple of 8 bytes, at most 2,048"
+-- "10 if the orders aren't a multiple of 8 bytes or exceed 2,048 bytes, place 0"
 unfoldable pub wrongList : List ℕ → Bool
 wrongList o = ltb 2048 (length o) || not (eqb (length o % 8) 0)
 

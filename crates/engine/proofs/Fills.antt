@@ -166,10 +166,6 @@ rows-more {b} {s} {n} {x} {W} {W′} {N} h l e f g =
         rw (z, getD-set-same N s x 0 (omega (arith, h .limits))) (g ∙ ap (λ (i : ℕ). (i + 63) / 64) e)
 
 -- ---- the index
-pub index-none : {X : List ℕ} → X ≡ replicate 64 0 → FullIndex 0 X
-index-none {X} e =
-    record { size = ap (λ (l : List ℕ). length l) e ∙ length-replicate {A = ℕ} 64 0; own = λ i l. absurd (omega arith) }
-
 pub index-more : {X : List ℕ} {n x : ℕ} → FullIndex n X → n < 64 → x ≡ n % 8 → FullIndex (n + 1) (set X n x)
 index-more {X} {n} {x} h l e = record { size = length-set X n x ∙ h .size; own = λ i q. own i (below i n) q }
   where

@@ -1,10 +1,10 @@
 -- Laws of lists of orders. Assumes nothing.
 use mathlib.Core.Path.{_≡_, ap, refl}
 use mathlib.Core.List.{List, [], _++_, _∷_}
-use Prim.Native.Nat.{_*_, _+_, _-_, _/_, _<_, suc, zero, ℕ}
+use Prim.Native.Nat.{_*_, _+_, _-_, suc, zero, ℕ}
 use native.Mathlib.Numerals.{add-one}
 use native.Mathlib.Omega.{arith}
-use lib.ListN.{drop, length, length-drop, length-take, take}
+use lib.ListN.{drop, take}
 use Rattle.model.specs.Tests.{tab}
 use Rattle.engine.specs.Lists.{orderAt, ordersTo}
 
@@ -20,6 +20,3 @@ orders-more l n = rw add-one (tab-last n (orderAt l))
 -- the part that the code takes
 pub order-part : (l : List ℕ) (n at end : ℕ) → at ≡ 8 * n → end ≡ at + 8 → take (end - at) (drop at l) ≡ orderAt l n
 order-part l n at end e f = let z : end - at ≡ 8 = omega arith in rw (z, e) refl
-
-pub order-length : (l : List ℕ) (n : ℕ) → n < length l / 8 → length (orderAt l n) ≡ 8
-order-length l n h = simp (length-take, length-drop) (omega arith)

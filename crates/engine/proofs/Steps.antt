@@ -197,11 +197,11 @@ module _ (b : List ℕ) (s : Session) (o : List ℕ) where
           (omega (arith, r .0), omega (arith, r .1, h .holds .deep), omega (arith, h .holds .few, h .holds .deep))
 
 -- ---- whole lists
-pub chainFrom : (b : List ℕ) (os : List (List ℕ)) (L : List Entry) (s t : Session) → Holds b L s → Chain b s os t → Holds b (trailFrom (bookOf b) L os) t
+pub chain-from : (b : List ℕ) (os : List (List ℕ)) (L : List Entry) (s t : Session) → Holds b L s → Chain b s os t → Holds b (trailFrom (bookOf b) L os) t
 unfolding trailFrom
-chainFrom b [] L s t h e = subst (λ (x : Session). Holds b L x) e h
-chainFrom b (o ∷ os) L s t h (m, p, c) = chainFrom b os (push (bookOf b) L o) m t (p L h) c
+chain-from b [] L s t h e = subst (λ (x : Session). Holds b L x) e h
+chain-from b (o ∷ os) L s t h (m, p, c) = chain-from b os (push (bookOf b) L o) m t (p L h) c
 
 -- the statement of specs/Holds.antt
 pub chainHolds : ChainHolds
-chainHolds b os s t h c = chainFrom b os [] s t h c
+chainHolds b os s t h c = chain-from b os [] s t h c

@@ -1,11 +1,11 @@
 -- States and sessions of the engine: what they are when a trail stands.
 use mathlib.Core.Path.{_≡_}
-use mathlib.Core.List.{List, [], _∷_, _++_}
-use Prim.Native.Nat.{ℕ, suc, _≤_, _<_}
-use lib.ListN.{length, getD, replicate}
-use Rattle.model.specs.Stores.{IsStore}
-use Rattle.model.specs.Orders.{Entry, narrowed, checkpoint, depth, before, push}
+use mathlib.Core.List.{List, [], _++_, _∷_}
+use Prim.Native.Nat.{ℕ}
+use lib.ListN.{replicate}
+use Rattle.model.specs.Orders.{Entry, narrowed}
 use Rattle.model.specs.States.{Arrays, StateHolds}
+use Rattle.model.specs.Stores.{IsStore}
 use Rattle.book.specs.Decoding.{bookOf}
 use Rattle.words.specs.Sheets.{Sized}
 use Rattle.engine.specs.Propagation.{arrays}

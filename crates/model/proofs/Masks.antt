@@ -1,18 +1,18 @@
 -- Laws of masks: the places that are set. Assumes nothing.
 use mathlib.Core.Path.{_∙_, _≡_, ap, ap₂, refl, sym}
-use mathlib.Core.Bool.{Bool, _&&_, _||_, false, false≢true, true}
+use mathlib.Core.Bool.{Bool, _&&_, _||_, false, false≢true, not, true, true≢false}
 use mathlib.Core.Logic.{_⊎_, inl, inr}
 use Prim.Native.Nat.{_%_, _*_, _+_, _-_, _/_, _<_, _^_, _≤_, max, min, suc, zero, ℕ}
-use native.Mathlib.Nat.{div-div-eq-div-mul, div-eq-of-lt, div-one, le-of-suc-le-suc, lt-of-lt-of-le, not-suc-le-zero, pow-succ', zero-div, zero-lt-suc}
+use native.Mathlib.Nat.{div-div-eq-div-mul, div-eq-of-lt, div-one, le-of-suc-le-suc, lt-of-le-of-lt, lt-of-lt-of-le, not-suc-le-zero, pow-succ', zero-div, zero-lt-suc}
 use native.Mathlib.Omega.{arith}
-use lib.Bits.{and-self, and-step, bitAnd, bitOr, or-step}
+use lib.Bits.{and-le-l, and-self, and-step, bitAnd, bitOr, or-step}
 use lib.Count.{trailingZeros, under}
-use lib.Dec.{eqb}
+use lib.Dec.{eqb, ltb}
 use lib.Pow.{pow-mono}
-use borrow.Author.Tests.{eq-eqb, eqb-false, eqb-true, ne-eqb}
-use Rattle.model.specs.Masks.{Cleared, bit, maskOf}
+use borrow.Author.Tests.{eq-eqb, eqb-false, eqb-true, le-ltb, lt-ltb, ne-eqb}
+use Rattle.model.specs.Masks.{Cleared, bit, maskOf, size}
 use Rattle.model.specs.Tests.{oneIf}
-use Rattle.model.proofs.Tests.{below, either}
+use Rattle.model.proofs.Tests.{below, either, none-count, one-count, two-count}
 
 pub bit-zero : (m : ℕ) → bit 0 m ≡ eqb (m % 2) 1
 unfolding bit
@@ -212,3 +212,38 @@ unfolding trailingZeros
 cleared zero x p h = absurd (omega arith)
 cleared (suc k) x p h =
     clear-step x (x % 2) (trailingZeros k (x / 2)) refl (omega arith) p (λ g. cleared k (x / 2) g (omega (arith, pow-succ' 2 k)))
+
+-- ---- how many places
+pub size-zero : size 0 ≡ 0
+size-zero = none-count 32 (λ v. bit v 0) (λ v l. bit-of-zero v)
+
+-- more than one, exactly when something is left without the lowest
+pub size-many : (x : ℕ) → 0 < x → x < 2 ^ 32 → ltb 1 (size x) ≡ not (eqb (bitAnd x (x - 1)) 0)
+size-many x p h = go (cleared 32 x p h) (lowest-lt 32 x p h) (either (eqb (bitAnd x (x - 1)) 0))
+  where
+    go : Cleared x (bitAnd x (x - 1)) (trailingZeros 32 x) → trailingZeros 32 x < 32
+        → (eqb (bitAnd x (x - 1)) 0 ≡ true) ⊎ (eqb (bitAnd x (x - 1)) 0 ≡ false) → ltb 1 (size x) ≡ not (eqb (bitAnd x (x - 1)) 0)
+    go f l (inl e) =
+        le-ltb 1 (size x) (omega (arith, one-count 32 (λ v. bit v x) (trailingZeros 32 x) l (f .here) alone)) ∙ sym (ap not e)
+      where
+        alone : (v : ℕ) → bit v x ≡ true → v ≡ trailingZeros 32 x
+        alone v q = at (either (eqb v (trailingZeros 32 x)))
+          where
+            at : (eqb v (trailingZeros 32 x) ≡ true) ⊎ (eqb v (trailingZeros 32 x) ≡ false) → v ≡ trailingZeros 32 x
+            at (inl y) = eqb-true v (trailingZeros 32 x) y
+            at (inr n) =
+                absurd
+                (false≢true
+                (sym (bit-of-zero v)
+                ∙ ap (bit v) (sym (eqb-true (bitAnd x (x - 1)) 0 e))
+                ∙ f .rest v (eqb-false v (trailingZeros 32 x) n)
+                ∙ q))
+    go f l (inr e) =
+        let y = bitAnd x (x - 1) in
+        let s = some-bit 32 y (lt-of-le-of-lt (and-le-l x (x - 1)) h) (positive y (eqb-false y 0 e)) in
+        let ne : s .0 ≡ trailingZeros 32 x → ⊥ = λ q. true≢false (sym (s .2) ∙ ap (λ (v : ℕ). bit v (bitAnd x (x - 1))) q ∙ f .gone) in
+        lt-ltb 1 (size x) (two-count 32 (λ v. bit v x) (s .0) (trailingZeros 32 x) (s .1) l (sym (f .rest (s .0) ne) ∙ s .2) (f .here) ne) ∙ sym (ap not e)
+      where
+        positive : (k : ℕ) → (k ≡ 0 → ⊥) → 0 < k
+        positive zero g = absurd (g refl)
+        positive (suc k) g = omega arith

@@ -298,6 +298,29 @@ one-count (suc n) f (suc i) l p h =
       one-count n (λ k. f (suc k)) i (le-of-suc-le-suc l) p (λ j e. let z : suc j ≡ suc i = h (suc j) e in omega arith),
     )
 
+-- as many as none, where none passes
+pub none-count : (n : ℕ) (f : ℕ → Bool) → ((i : ℕ) → i < n → f i ≡ false) → count n f ≡ 0
+unfolding count
+none-count n f h = zero-sum n (λ k. oneIf (f k)) (λ i l. ap oneIf (h i l))
+
+-- some, where one passes
+pub some-count : (n : ℕ) (f : ℕ → Bool) (i : ℕ) → i < n → f i ≡ true → 0 < count n f
+unfolding count
+some-count n f i l p = go (count n f) refl
+  where
+    go : (k : ℕ) → count n f ≡ k → 0 < count n f
+    go zero e = absurd (omega (arith, oneIf-true _ p, sum-zero n (λ k. oneIf (f k)) e i l))
+    go (suc k) e = omega arith
+
+-- more than one, where two do
+pub two-count : (n : ℕ) (f : ℕ → Bool) (i j : ℕ) → i < n → j < n → f i ≡ true → f j ≡ true → (i ≡ j → ⊥) → 1 < count n f
+two-count n f i j li lj p q ne = go (count n f) refl (some-count n f i li p)
+  where
+    go : (k : ℕ) → count n f ≡ k → 0 < count n f → 1 < count n f
+    go zero e s = absurd (omega arith)
+    go (suc zero) e s = absurd (ne (one-same n f e i j li lj p q))
+    go (suc (suc k)) e s = omega arith
+
 -- ---- a table
 pub length-tab : {A : Type 0} (n : ℕ) (f : ℕ → A) → length (tab n f) ≡ n
 unfolding tab

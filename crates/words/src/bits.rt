@@ -3,7 +3,8 @@ ghost use mathlib.Core.Path.{_≡_};
 ghost use mathlib.Core.Bool.{true};
 ghost use Prim.Native.Nat.{_+_, _-_, _/_, _%_, _^_, _<_, _≤_};
 ghost use lib.Count.{trailingZeros};
-ghost use Rattle.model.specs.Masks.{bit, Cleared};
+ghost use lib.Dec.{ltb};
+ghost use Rattle.model.specs.Masks.{bit, size, Cleared};
 
 // The lowest place of x.
 pub fn lowest(x: u64) -> u32
@@ -35,4 +36,14 @@ pub fn only(v: u32) -> u32
     ensures { λ r. ⌜ r ≡ 2 ^ v ⌝ }
 {
     1u32 << v
+}
+
+// Whether d has two values or more.
+pub fn two_or_more(d: u32) -> bool
+    ensures { λ r. ⌜ r ≡ ltb 1 (size d) ⌝ }
+{
+    if d == 0 {
+        return false;
+    }
+    d & (d - 1) != 0
 }

@@ -291,44 +291,44 @@ finishing-same b L M e =
     }
 
 -- ---- demand 3
-module _ (Session : Type 0) (current : Session → List ℕ) (Holds : Book → List Entry → Session → Type 0) where
-  chain-gives : (b : Book) (os : List (List ℕ)) (L : List Entry) (s : Session) (a : Answer) (t : Session) (d : List ℕ)
-      → Holds b L s → Chain Session current Holds b s (answerBytes a) os t d
-      → Holds b (trailFrom b L os) t × (d ≡ answerBytes (lastFrom b L a os))
+module _ (b : Book) (Session : Type 0) (current : Session → List ℕ) (Holds : List Entry → Session → Type 0) where
+  chain-gives : (os : List (List ℕ)) (L : List Entry) (s : Session) (a : Answer) (t : Session) (d : List ℕ)
+      → Holds L s → Chain b Session current Holds s (answerBytes a) os t d
+      → Holds (trailFrom b L os) t × (d ≡ answerBytes (lastFrom b L a os))
   unfolding trailFrom lastFrom
-  chain-gives b [] L s a t d h c = (subst (Holds b L) (c .0) h, sym (c .1))
-  chain-gives b (o ∷ os) L s a t d h c =
-      chain-gives b os (push b L o) (c .0) (answer b L o) t d (c .2 .holds L h)
-      (subst (λ (e : List ℕ). Chain Session current Holds b (c .0) e os t d) (c .2 .says L h) (c .3))
+  chain-gives [] L s a t d h c = (subst (Holds L) (c .0) h, sym (c .1))
+  chain-gives (o ∷ os) L s a t d h c =
+      chain-gives os (push b L o) (c .0) (answer b L o) t d (c .2 .holds L h)
+      (subst (λ (e : List ℕ). Chain b Session current Holds (c .0) e os t d) (c .2 .says L h) (c .3))
 
   -- a run ends with what the definitions say of its list
-  pub run-gives : (b : Book) (os : List (List ℕ)) (t : Session) (d : List ℕ) → Run Session current Holds b os t d → Gives Session current Holds b os t d
-  run-gives b os t d r =
+  pub run-gives : (os : List (List ℕ)) (t : Session) (d : List ℕ) → Run b Session current Holds os t d → Gives b Session current Holds os t d
+  run-gives os t d r =
       let q =
-      chain-gives b os [] (r .start) (opening b) t d (r .opened .holds)
-      (subst (λ (e : List ℕ). Chain Session current Holds b (r .start) e os t d) (r .opened .says) (r .chain)) in
+      chain-gives os [] (r .start) (opening b) t d (r .opened .holds)
+      (subst (λ (e : List ℕ). Chain b Session current Holds (r .start) e os t d) (r .opened .says) (r .chain)) in
       record { holds = q .0; says = q .1 }
 
-  gives-tells : (b : Book) (os : List (List ℕ)) → Tells b (trail b os) (lastAnswer b os)
-  gives-tells b os = last-tells b os [] (opening b) (showing-tells b [] 0)
+  gives-tells : (os : List (List ℕ)) → Tells b (trail b os) (lastAnswer b os)
+  gives-tells os = last-tells b os [] (opening b) (showing-tells b [] 0)
 
-  module _ (reads : HoldsDomains Session current Holds) where
-    current-to : (b : Book) (L : List Entry) (s : Session) → Holds b L s → Within (current s) (domains b L)
+  module _ (reads : HoldsDomains b Session current Holds) where
+    current-to : (L : List Entry) (s : Session) → Holds L s → Within (current s) (domains b L)
     unfolding has
-    current-to b L s h = record { at = λ c v e. rw (← reads .at b L s h c) e }
+    current-to L s h = record { at = λ c v e. rw (← reads .at L s h c) e }
 
-    current-from : (b : Book) (L : List Entry) (s : Session) → Holds b L s → Within (domains b L) (current s)
+    current-from : (L : List Entry) (s : Session) → Holds L s → Within (domains b L) (current s)
     unfolding has
-    current-from b L s h = record { at = λ c v e. rw (reads .at b L s h c) e }
+    current-from L s h = record { at = λ c v e. rw (reads .at L s h c) e }
 
-    pub gives-demand3 : (b : Book) (xs ys : List (List ℕ)) (s t : Session) (a d : List ℕ)
-        → Gives Session current Holds b xs s a → Gives Session current Holds b ys t d → Demand3 Session current Holds b xs ys s t a d
-    gives-demand3 b xs ys s t a d p q =
+    pub gives-demand3 : (xs ys : List (List ℕ)) (s t : Session) (a d : List ℕ)
+        → Gives b Session current Holds xs s a → Gives b Session current Holds ys t d → Demand3 b Session current Holds xs ys s t a d
+    gives-demand3 xs ys s t a d p q =
         record {
           same-status = λ h. said xs s a p .0 ∙ ap (statusOf b) (same-domains b L M h) ∙ sym (said ys t d q .0);
           same-done = λ h. said xs s a p .1 ∙ ap (doneOf b) (same-domains b L M h) ∙ sym (said ys t d q .1);
           same-domains = λ h c.
-              reads .at b L s hs c ∙ ap (λ (D : List ℕ). getD D c 0) (same-domains b L M h) ∙ sym (reads .at b M t ht c);
+              reads .at L s hs c ∙ ap (λ (D : List ℕ). getD D c 0) (same-domains b L M h) ∙ sym (reads .at M t ht c);
           same-finish = finish;
           narrower-within = inner;
           wider-solution = λ w x f. (x, solution-mono b (current s) (current t) x (inner w) f);
@@ -341,28 +341,28 @@ module _ (Session : Type 0) (current : Session → List ℕ) (Holds : Book → L
         M : List Entry
         M = trail b ys
 
-        hs : Holds b L s
+        hs : Holds L s
         hs = p .holds
 
-        ht : Holds b M t
+        ht : Holds M t
         ht = q .holds
 
-        said : (os : List (List ℕ)) (u : Session) (e : List ℕ) → Gives Session current Holds b os u e
+        said : (os : List (List ℕ)) (u : Session) (e : List ℕ) → Gives b Session current Holds os u e
             → (byte e 1 ≡ statusOf b (domains b (trail b os))) × (byte e 4 ≡ doneOf b (domains b (trail b os)))
         said os u e g = (
-          ap (λ (l : List ℕ). byte l 1) (g .says) ∙ bytes-1 (lastAnswer b os) ∙ gives-tells b os .status,
-          ap (λ (l : List ℕ). byte l 4) (g .says) ∙ bytes-4 (lastAnswer b os) ∙ gives-tells b os .done,
+          ap (λ (l : List ℕ). byte l 1) (g .says) ∙ bytes-1 (lastAnswer b os) ∙ gives-tells os .status,
+          ap (λ (l : List ℕ). byte l 4) (g .says) ∙ bytes-4 (lastAnswer b os) ∙ gives-tells os .done,
         )
 
         -- an accepted finish is answered by `finishing`
-        finished : (N : List Entry) (u u′ : Session) (o e : List ℕ) → Holds b N u → kind o ≡ 4
-            → Stepped Session current Holds b u o u′ e → refusal b N o ≡ 0 → e ≡ answerBytes (finishing b N)
+        finished : (N : List Entry) (u u′ : Session) (o e : List ℕ) → Holds N u → kind o ≡ 4
+            → Stepped b Session current Holds u o u′ e → refusal b N o ≡ 0 → e ≡ answerBytes (finishing b N)
         finished N u u′ o e h k g z =
             g .says N h ∙ ap answerBytes (answer-finish b N o (and-i (eq-eqb _ 4 k) (eq-eqb _ 0 z)))
 
         -- a finish that one session accepts, the other does too: its refusal goes by its bytes
         finish : SameAllowed b L M → (o : List ℕ) → kind o ≡ 4 → (s′ t′ : Session) (a′ d′ : List ℕ)
-            → Stepped Session current Holds b s o s′ a′ → Stepped Session current Holds b t o t′ d′
+            → Stepped b Session current Holds s o s′ a′ → Stepped b Session current Holds t o t′ d′
             → byte a′ 0 ≡ 0 → SameFinish a′ d′
         finish h o k s′ t′ a′ d′ m n u =
             let x : refusal b L o ≡ 0 =
@@ -371,20 +371,20 @@ module _ (Session : Type 0) (current : Session → List ℕ) (Holds : Book → L
             rw (finished L s s′ o a′ hs k m x, finished M t t′ o d′ ht k n y) (finishing-same b L M (same-domains b L M h))
 
         inner : Narrower b L M → Within (current s) (current t)
-        inner w = within-trans (current-to b L s hs) (within-trans (domains-mono b L M w) (current-from b M t ht))
+        inner w = within-trans (current-to L s hs) (within-trans (domains-mono b L M w) (current-from M t ht))
 
         firsts : Narrower b L M → (x : List ℕ) → Solution b (current s) x
             → (y : List ℕ) × (z : List ℕ) × FirstSolution b (current s) y × FirstSolution b (current t) z × ((z ≡ y) ⊎ Lower z y)
         firsts w x f =
-            let y = has-first b (domains b L) (domains-store b L) x (solution-mono b (current s) (domains b L) x (current-to b L s hs) f) in
+            let y = has-first b (domains b L) (domains-store b L) x (solution-mono b (current s) (domains b L) x (current-to L s hs) f) in
             let z = has-first b (domains b M) (domains-store b M) (y .0) (solution-mono b (domains b L) (domains b M) (y .0) (domains-mono b L M w) (y .1 .solution)) in (
               y .0,
               z .0,
-              first-same b (domains b L) (current s) (y .0) (current-from b L s hs) (current-to b L s hs) (y .1),
-              first-same b (domains b M) (current t) (z .0) (current-from b M t ht) (current-to b M t ht) (z .1),
+              first-same b (domains b L) (current s) (y .0) (current-from L s hs) (current-to L s hs) (y .1),
+              first-same b (domains b M) (current t) (z .0) (current-from M t ht) (current-to M t ht) (z .1),
               first-wider b (domains b L) (domains b M) (y .0) (z .0) (domains-mono b L M w) (y .1) (z .1),
             )
 
 pub claim3 : Claim3
-claim3 Session current Holds reads b xs ys s t a d p q =
-    gives-demand3 Session current Holds reads b xs ys s t a d (run-gives Session current Holds b xs s a p) (run-gives Session current Holds b ys t d q)
+claim3 b Session current Holds reads xs ys s t a d p q =
+    gives-demand3 b Session current Holds reads xs ys s t a d (run-gives b Session current Holds xs s a p) (run-gives b Session current Holds ys t d q)

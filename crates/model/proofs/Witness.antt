@@ -133,47 +133,34 @@ rowFacts =
     indexed (suc zero) l = first-indexed (ofSheet (openingArrays .index) 1) (ofSheet (openingArrays .words) 1) refl (omega arith) refl
     indexed (suc (suc s)) l = absurd (omega arith)
 
--- ---- runs
-pub record TrailSession : Type 0 where
-  pub book : Book
-  pub entries : List Entry
+-- ---- runs: the trail itself is a session
+abbrev pub TrailHolds : List Entry → List Entry → Type 0
+TrailHolds L M = M ≡ L
 
-abbrev pub trailDomains : TrailSession → List ℕ
-trailDomains s = domains (s .book) (s .entries)
+module _ (b : Book) where
+  pub trail-reads : HoldsDomains b (List Entry) (domains b) TrailHolds
+  trail-reads = record { at = λ L M h c. rw h }
 
-pub record TrailHolds (b : Book) (L : List Entry) (s : TrailSession) : Type 0 where
-  pub same-book : s .book ≡ b
-  pub same-entries : s .entries ≡ L
+  trail-steps : (L : List Entry) (o : List ℕ)
+      → Stepped b (List Entry) (domains b) TrailHolds L o (push b L o) (answerBytes (answer b L o))
+  trail-steps L o =
+      record {
+        holds = λ M h. ap (λ (X : List Entry). push b X o) h;
+        says = λ M h. ap (λ (X : List Entry). answerBytes (answer b X o)) h;
+      }
 
-pub trail-reads : HoldsDomains TrailSession trailDomains TrailHolds
-trail-reads = record { at = λ b L s h c. rw (h .same-book, h .same-entries) }
+  trail-chain : (os : List (List ℕ)) (L : List Entry) (a : Answer)
+      → Chain b (List Entry) (domains b) TrailHolds L (answerBytes a) os (trailFrom b L os) (answerBytes (lastFrom b L a os))
+  unfolding trailFrom lastFrom
+  trail-chain [] L a = (refl, refl)
+  trail-chain (o ∷ os) L a =
+      (push b L o, answerBytes (answer b L o), trail-steps L o, trail-chain os (push b L o) (answer b L o))
 
-over : Book → List Entry → TrailSession
-over b L = record { book = b; entries = L }
-
-trail-steps : (b : Book) (L : List Entry) (o : List ℕ)
-    → Stepped TrailSession trailDomains TrailHolds b (over b L) o (over b (push b L o)) (answerBytes (answer b L o))
-unfolding over
-trail-steps b L o =
-    record {
-      holds = λ M h. record { same-book = refl; same-entries = ap (λ (X : List Entry). push b X o) (h .same-entries) };
-      says = λ M h. ap (λ (X : List Entry). answerBytes (answer b X o)) (h .same-entries);
-    }
-
-trail-chain : (b : Book) (os : List (List ℕ)) (L : List Entry) (a : Answer)
-    → Chain TrailSession trailDomains TrailHolds b (over b L) (answerBytes a) os (over b (trailFrom b L os)) (answerBytes (lastFrom b L a os))
-unfolding trailFrom lastFrom
-trail-chain b [] L a = (refl, refl)
-trail-chain b (o ∷ os) L a =
-    (over b (push b L o), answerBytes (answer b L o), trail-steps b L o, trail-chain b os (push b L o) (answer b L o))
-
-pub trail-runs : (b : Book) (os : List (List ℕ))
-    → Run TrailSession trailDomains TrailHolds b os (record { book = b; entries = trail b os }) (answerBytes (lastAnswer b os))
-unfolding over
-trail-runs b os =
-    record {
-      start = over b [];
-      answer-0 = answerBytes (opening b);
-      opened = record { holds = record { same-book = refl; same-entries = refl }; says = refl };
-      chain = trail-chain b os [] (opening b);
-    }
+  pub trail-runs : (os : List (List ℕ)) → Run b (List Entry) (domains b) TrailHolds os (trail b os) (answerBytes (lastAnswer b os))
+  trail-runs os =
+      record {
+        start = [];
+        answer-0 = answerBytes (opening b);
+        opened = record { holds = refl; says = refl };
+        chain = trail-chain os [] (opening b);
+      }

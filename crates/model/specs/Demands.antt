@@ -95,43 +95,43 @@ pub record SameFinish (a d : List ℕ) : Type 0 where
   pub byte-4 : byte a 4 ≡ byte d 4
   pub bytes-8-to-71 : (i : ℕ) → 8 ≤ i → i ≤ 71 → byte a i ≡ byte d i
 
--- The engine, as its contracts describe it. `Session`: the type of a session. `current s`: its current domains. `Holds b L s`: what the
--- session s is when the trail L stands over the book b. An answer is its 72 bytes.
-module _ (Session : Type 0) (current : Session → List ℕ) (Holds : Book → List Entry → Session → Type 0) where
+-- The engine over the book b, as its contracts describe it. `Session`: the type of a session. `current s`: its current domains.
+-- `Holds L s`: what the session s is when the trail L stands. An answer is its 72 bytes.
+module _ (b : Book) (Session : Type 0) (current : Session → List ℕ) (Holds : List Entry → Session → Type 0) where
   -- "the session given back holds exactly those as its current ones": all that demand 3 asks of `Holds`
   pub record HoldsDomains : Type 0 where
-    pub at : (b : Book) (L : List Entry) (s : Session) → Holds b L s → (c : ℕ) → getD (current s) c 0 ≡ getD (domains b L) c 0
+    pub at : (L : List Entry) (s : Session) → Holds L s → (c : ℕ) → getD (current s) c 0 ≡ getD (domains b L) c 0
 
   -- the contract of the opening: "starts from the session that answer 0 shows, with an empty standing list"
-  pub record Opened (b : Book) (s : Session) (a : List ℕ) : Type 0 where
-    pub holds : Holds b [] s
+  pub record Opened (s : Session) (a : List ℕ) : Type 0 where
+    pub holds : Holds [] s
     pub says : a ≡ answerBytes (opening b)
 
   -- the contract of an order: it takes s, gives back t and writes the answer a. Whatever trail stood, the trail that o makes of it stands
-  pub record Stepped (b : Book) (s : Session) (o : List ℕ) (t : Session) (a : List ℕ) : Type 0 where
-    pub holds : (L : List Entry) → Holds b L s → Holds b (push b L o) t
-    pub says : (L : List Entry) → Holds b L s → a ≡ answerBytes (answer b L o)
+  pub record Stepped (s : Session) (o : List ℕ) (t : Session) (a : List ℕ) : Type 0 where
+    pub holds : (L : List Entry) → Holds L s → Holds (push b L o) t
+    pub says : (L : List Entry) → Holds L s → a ≡ answerBytes (answer b L o)
 
   -- "Each order gets the session that the one before it gave back, after a refused one too, and nothing else writes the session or the
   -- book meanwhile": from the session s and the answer a, the orders lead to t and d
-  abbrev pub Chain : Book → Session → List ℕ → List (List ℕ) → Session → List ℕ → Type 0
-  Chain b s a [] t d = (s ≡ t) × (a ≡ d)
-  Chain b s a (o ∷ os) t d = (m : Session) × (e : List ℕ) × Stepped b s o m e × Chain b m e os t d
+  abbrev pub Chain : Session → List ℕ → List (List ℕ) → Session → List ℕ → Type 0
+  Chain s a [] t d = (s ≡ t) × (a ≡ d)
+  Chain s a (o ∷ os) t d = (m : Session) × (e : List ℕ) × Stepped s o m e × Chain m e os t d
 
   -- a whole list, of orders of any kind, from an opening to its last session and last answer
-  pub record Run (b : Book) (os : List (List ℕ)) (t : Session) (d : List ℕ) : Type 0 where
+  pub record Run (os : List (List ℕ)) (t : Session) (d : List ℕ) : Type 0 where
     pub start : Session
     pub answer-0 : List ℕ
-    pub opened : Opened b start answer-0
-    pub chain : Chain b start answer-0 os t d
+    pub opened : Opened start answer-0
+    pub chain : Chain start answer-0 os t d
 
   -- the same by what it comes to: what a function ensures that runs a whole list
-  pub record Gives (b : Book) (os : List (List ℕ)) (t : Session) (d : List ℕ) : Type 0 where
-    pub holds : Holds b (trail b os) t
+  pub record Gives (os : List (List ℕ)) (t : Session) (d : List ℕ) : Type 0 where
+    pub holds : Holds (trail b os) t
     pub says : d ≡ answerBytes (lastAnswer b os)
 
   -- "Demand 3 is a single claim about any two whole lists": xs ended with the session s and the last answer a, ys with t and d
-  pub record Demand3 (b : Book) (xs ys : List (List ℕ)) (s t : Session) (a d : List ℕ) : Type 0 where
+  pub record Demand3 (xs ys : List (List ℕ)) (s t : Session) (a d : List ℕ) : Type 0 where
     -- "Lists that end with the same allowed values in every column agree in bytes 1 and 4 of their last answers (answer 0 for an empty
     -- list)
     pub same-status : SameAllowed b (trail b xs) (trail b ys) → byte a 1 ≡ byte d 1
@@ -140,7 +140,7 @@ module _ (Session : Type 0) (current : Session → List ℕ) (Holds : Book → L
     pub same-domains : SameAllowed b (trail b xs) (trail b ys) → (c : ℕ) → getD (current s) c 0 ≡ getD (current t) c 0
     -- "If one accepted finish with the same bytes is then given to both, they agree in bytes 1, 3, 4 and 8 to 71 of its answer."
     pub same-finish : SameAllowed b (trail b xs) (trail b ys) → (o : List ℕ) → kind o ≡ 4
-        → (s′ t′ : Session) (a′ d′ : List ℕ) → Stepped b s o s′ a′ → Stepped b t o t′ d′
+        → (s′ t′ : Session) (a′ d′ : List ℕ) → Stepped s o s′ a′ → Stepped t o t′ d′
         → byte a′ 0 ≡ 0 → SameFinish a′ d′
     -- "Then each value in a current domain of the narrower is in the wider's domain of that column."
     pub narrower-within : Narrower b (trail b xs) (trail b ys) → Within (current s) (current t)
@@ -161,6 +161,6 @@ Claim2 = (b : Book) → WellFormed b → ((L : List Entry) → Demand2 b L) × E
 -- of any engine whose sessions hold the domains of their trail
 abbrev pub Claim3 : Type 1
 Claim3 =
-    (Session : Type 0) (current : Session → List ℕ) (Holds : Book → List Entry → Session → Type 0) → HoldsDomains Session current Holds
-    → (b : Book) (xs ys : List (List ℕ)) (s t : Session) (a d : List ℕ)
-    → Run Session current Holds b xs s a → Run Session current Holds b ys t d → Demand3 Session current Holds b xs ys s t a d
+    (b : Book) (Session : Type 0) (current : Session → List ℕ) (Holds : List Entry → Session → Type 0) → HoldsDomains b Session current Holds
+    → (xs ys : List (List ℕ)) (s t : Session) (a d : List ℕ)
+    → Run b Session current Holds xs s a → Run b Session current Holds ys t d → Demand3 b Session current Holds xs ys s t a d

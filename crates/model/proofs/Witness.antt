@@ -1,23 +1,23 @@
 -- The statements speak of something: the paper's books are well-formed, its opening state holds, and with the trail itself as the session
 -- every list of orders over every book has a run. Assumes nothing.
-use mathlib.Core.Path.{_≡_, refl, sym, ap, _∙_}
-use mathlib.Core.Bool.{Bool, true, _&&_}
+use mathlib.Core.Path.{_∙_, _≡_, ap, refl, sym}
+use mathlib.Core.Bool.{Bool, _&&_, true}
 use mathlib.Core.Logic.{_⊎_, inl, inr, ⊎-elim}
 use mathlib.Core.List.{List, [], _∷_}
-use Prim.Native.Nat.{ℕ, zero, suc, _<_}
+use Prim.Native.Nat.{_<_, suc, zero, ℕ}
 use native.Mathlib.Omega.{arith}
-use lib.Dec.{eqb, ltb, leb}
-use lib.ListN.{length, getD}
-use borrow.Author.Tests.{eqb-true, ltb-true, leb-true}
+use lib.Dec.{eqb, leb, ltb}
+use lib.ListN.{getD, length}
+use borrow.Author.Tests.{eqb-true, leb-true, ltb-true}
+use Rattle.model.specs.Acceptance.{BooksWellFormed, H, H1, H2, H7, H8, H9, RowFacts, openingArrays}
+use Rattle.model.specs.Answers.{Answer, answer, answerBytes, lastAnswer, lastFrom, opening}
+use Rattle.model.specs.Books.{Book, Sheet, WellFormed, WellFormedSheet, columnCount}
+use Rattle.model.specs.Demands.{Chain, HoldsDomains, Run, Stepped}
+use Rattle.model.specs.Orders.{Entry, domains, push, trail, trailFrom}
+use Rattle.model.specs.States.{Indexed, ofSheet, sheetAt, valid, validRow, validWord}
 use Rattle.model.specs.Tests.{allBelow, allIn}
-use Rattle.model.specs.Books.{Sheet, Book, columnCount, WellFormedSheet, WellFormed}
-use Rattle.model.specs.Orders.{Entry, push, trailFrom, trail, domains}
-use Rattle.model.specs.Answers.{Answer, answer, opening, lastFrom, lastAnswer, answerBytes}
-use Rattle.model.specs.States.{valid, validRow, validWord, Indexed, ofSheet, sheetAt}
-use Rattle.model.specs.Demands.{HoldsDomains, Stepped, Chain, Run}
-use Rattle.model.specs.Acceptance.{H, H7, H8, H9, H2, H1, openingArrays, RowFacts, BooksWellFormed}
 use Rattle.model.proofs.Acceptance.{computing}
-use Rattle.model.proofs.Tests.{and-l, and-r, allBelow-e, allIn-e}
+use Rattle.model.proofs.Tests.{allBelow-e, allIn-e, and-l, and-r}
 
 -- ---- well-formed books, by a test
 sheetTest : List ℕ → Sheet → Bool

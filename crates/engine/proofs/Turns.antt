@@ -221,6 +221,7 @@ module _ (b : List ℕ) (acc : Accepted b) where
         store = r .loses .store;
         sized = r .sized;
         state = λ e. absurd (false≢true e);
+        filled = λ e. absurd (false≢true e);
         failed = λ e. no-store z;
         indexed = λ t l. indexed t l (either (eqb t s));
       }
@@ -377,6 +378,7 @@ module _ (b : List ℕ) (acc : Accepted b) where
         store = h .store;
         sized = h .sized;
         state = λ e. state;
+        filled = λ e. h .filled;
         failed = λ e. absurd (false≢true (sym e));
         indexed = λ s l. h .sheet s l .indexed;
       }

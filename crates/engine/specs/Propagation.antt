@@ -38,11 +38,12 @@ pub record Ready (b : List ℕ) (opening : Bool) (waiting column : ℕ) (D W X N
   pub used : (s : ℕ) → bit s waiting ≡ true → s < sheetsOf b
   pub small : waiting < 256
 
--- the arrays are the state of the closure of D, or the closure is empty
+-- the arrays are the state of the closure of D, which has no empty column, or the closure is empty
 pub record Propagated (b D D′ W′ X′ N′ : List ℕ) (r : Bool) : Type 0 where
   pub store : IsStore 16 D′
   pub sized : Sized W′ X′ N′
   pub state : r ≡ true → StateOf (bookOf b) (closureIn b D) (arrays D′ W′ X′ N′)
+  pub filled : r ≡ true → (c : ℕ) → c < columnsOf b → (v : ℕ) × (has D′ c v ≡ true)
   pub failed : r ≡ false → closureIn b D ≡ emptyStore (columnCount (bookOf b))
   pub indexed : (s : ℕ) → s < sheetsOf b → IndexOf s W′ X′ N′
 

@@ -59,6 +59,28 @@ firstOf-some (suc n) f x e = go (opt (f 0)) (firstOf-some n (λ v. f (suc v)) x)
         let k : firstOf (suc n) f ≡ some (q .0) = rw (q .1, firstOf) in
         record { value = 0; inside = zero-lt-suc n; found = q .1 ∙ sym k ∙ e; before = λ u l. absurd (not-suc-le-zero l) }
 
+-- the other way round
+pub firstOf-i : (n : ℕ) (f : ℕ → Option (List ℕ)) (x : List ℕ) → FirstOf n f x → firstOf n f ≡ some x
+firstOf-i n f x h = go (opt (firstOf n f))
+  where
+    same : (y : List ℕ) (g : FirstOf n f y) → (h .value < g .value) ⊎ (g .value ≤ h .value) → (g .value < h .value) ⊎ (h .value ≤ g .value) → some y ≡ some x
+    same y g (inl a) r = absurd (never (g .before (h .value) a) (h .found))
+    same y g (inr a) (inl r) = absurd (never (h .before (g .value) r) (g .found))
+    same y g (inr a) (inr r) = let e : g .value ≡ h .value = omega arith in sym (g .found) ∙ ap f e ∙ h .found
+
+    go : (firstOf n f ≡ none) ⊎ ((y : List ℕ) × (firstOf n f ≡ some y)) → firstOf n f ≡ some x
+    go (inl e) = absurd (never (firstOf-none n f e (h .value) (h .inside)) (h .found))
+    go (inr q) =
+        let g = firstOf-some n f (q .0) (q .1) in
+        q .1 ∙ same (q .0) g (below (h .value) (g .value)) (below (g .value) (h .value))
+
+pub firstOf-no : (n : ℕ) (f : ℕ → Option (List ℕ)) → ((v : ℕ) → v < n → f v ≡ none) → firstOf n f ≡ none
+firstOf-no n f h = go (opt (firstOf n f))
+  where
+    go : (firstOf n f ≡ none) ⊎ ((y : List ℕ) × (firstOf n f ≡ some y)) → firstOf n f ≡ none
+    go (inl e) = e
+    go (inr q) = let g = firstOf-some n f (q .0) (q .1) in absurd (never (h (g .value) (g .inside)) (g .found))
+
 pub firstOf-same : (n : ℕ) (f g : ℕ → Option (List ℕ)) → ((v : ℕ) → v < n → f v ≡ g v) → firstOf n f ≡ firstOf n g
 unfolding firstOf
 firstOf-same zero f g h = refl

@@ -180,6 +180,18 @@ unfolding trailingZeros
 lowest-lt zero m p h = absurd (omega arith)
 lowest-lt (suc k) m p h = under-lt (m % 2) (trailingZeros k (m / 2)) k (λ e. lowest-lt k (m / 2) (omega arith) (omega (arith, pow-succ' 2 k)))
 
+-- no place below it is set
+pub lowest-under : (k m u : ℕ) → u < trailingZeros k m → bit u m ≡ false
+unfolding trailingZeros
+lowest-under zero m u l = absurd (omega arith)
+lowest-under (suc k) m u l = go (m % 2) refl u l (λ v q. lowest-under k (m / 2) v q)
+  where
+    go : (d : ℕ) → m % 2 ≡ d → (u : ℕ) → u < under d (trailingZeros k (m / 2)) → ((v : ℕ) → v < trailingZeros k (m / 2) → bit v (m / 2) ≡ false)
+        → bit u m ≡ false
+    go zero e zero l r = bit-zero m ∙ rw e
+    go zero e (suc u) l r = bit-suc u m ∙ r u (omega arith)
+    go (suc d) e u l r = absurd (omega arith)
+
 odd-cleared : (x y : ℕ) → x % 2 ≡ 1 → y ≡ 2 * (x / 2) → Cleared x y 0
 odd-cleared x y o e = record { here = bit-zero x ∙ rw o; gone = rw e (twice-low (x / 2)); rest = other }
   where

@@ -4,35 +4,38 @@ use mathlib.Core.Bool.{true, false, not, true≢false}
 use mathlib.Core.Logic.{_⊎_, inl, inr}
 use mathlib.Core.Option.{Option, none, some}
 use mathlib.Core.List.{List, [], _∷_, map, List·Memᴰ}
-use Prim.Native.Nat.{ℕ, zero, suc, _≤_, _<_}
+use Prim.Native.Nat.{ℕ, zero, suc, _^_, _≤_, _<_}
 use native.Mathlib.Nat.{not-suc-le-zero, le-of-suc-le-suc, le-refl}
 use native.Mathlib.Omega.{arith}
 use lib.Dec.{eqb, ltb}
 use lib.ListN.{length, getD, length-map}
+use lib.Pow.{pow-lt}
 use lib.Seq.{ext-getD}
-use borrow.Author.Tests.{eqb-true, eq-eqb, ltb-true, ltb-false, not-true, not-false}
+use borrow.Author.Tests.{eqb-true, eq-eqb, ne-eqb, ltb-true, ltb-false, not-true, not-false}
 use Rattle.model.specs.Tests.{lowest}
 use Rattle.model.specs.Masks.{bit, size}
 use Rattle.model.specs.Stores.{has, Within, IsStore, emptyStore, assign, allFilled, values}
 use Rattle.model.specs.Choices.{pick, Lower, firstOf}
 use Rattle.model.specs.Books.{Sheet, Book, columnCount, allows, WellFormed, ConsistentStore, supported, closure}
 use Rattle.model.specs.Solutions.{Solution, FirstSolution, firstSolution}
-use Rattle.model.specs.Search.{openColumn, valueOf, searchFrom, searchSolution}
-use Rattle.model.proofs.Tests.{either, lowest-e, lowest-before, one-same, one-count, below}
+use Rattle.model.specs.Answers.{solutionMasks}
+use Rattle.model.specs.Search.{after, openColumn, valueOf, searchFrom, searchSolution}
+use Rattle.model.proofs.Tests.{either, lowest-e, lowest-before, one-same, one-count, some-count, same-test, below}
+use Rattle.model.proofs.Masks.{mask-ext, bit-pow, bit-pow-only}
 use Rattle.model.proofs.Stores.{in-store, empty-has, filled-e, filled-i, values-fall, assign-e, assign-i, assign-store}
 use Rattle.model.proofs.Closure.{closure-within, closure-store, closure-again}
-use Rattle.model.proofs.Choices.{opt, never, firstOf-none, FirstOf, firstOf-some, firstOf-same, getD-pick, length-pick, pick-e}
+use Rattle.model.proofs.Choices.{opt, never, firstOf-none, FirstOf, firstOf-some, firstOf-i, firstOf-no, firstOf-same, getD-pick, length-pick, pick-e}
 use Rattle.model.proofs.Books.{supported-mono, closed-or-empty}
 use Rattle.model.proofs.Solutions.{found-iff, none-iff, solution-mono, solution-closure}
 
 -- ---- single columns
-single-same : (C : ℕ) (D : List ℕ) → IsStore C D → (c : ℕ) → eqb (size (getD D c 0)) 1 ≡ true
+pub single-same : (C : ℕ) (D : List ℕ) → IsStore C D → (c : ℕ) → eqb (size (getD D c 0)) 1 ≡ true
     → (u v : ℕ) → has D c u ≡ true → has D c v ≡ true → u ≡ v
 unfolding has
 single-same C D d c e u v p q =
     one-same 32 (λ v. bit v (getD D c 0)) (eqb-true _ 1 e) u v (in-store C D d c u p .1) (in-store C D d c v q .1) p q
 
-value-has : (C : ℕ) (D : List ℕ) → IsStore C D → (c v : ℕ) → has D c v ≡ true → has D c (valueOf (getD D c 0)) ≡ true
+pub value-has : (C : ℕ) (D : List ℕ) → IsStore C D → (c v : ℕ) → has D c v ≡ true → has D c (valueOf (getD D c 0)) ≡ true
 unfolding has valueOf
 value-has C D d c v e = lowest-e 32 (λ v. bit v (getD D c 0)) (go (below (lowest 32 (λ v. bit v (getD D c 0))) 32))
   where
@@ -42,10 +45,46 @@ value-has C D d c v e = lowest-e 32 (λ v. bit v (getD D c 0)) (go (below (lowes
         let k : v < 32 = in-store C D d c v e .1 in
         absurd (true≢false (sym e ∙ lowest-before 32 (λ v. bit v (getD D c 0)) v (omega arith)))
 
+-- the mask of a single column is its value alone
+pub single-mask : (C : ℕ) (D : List ℕ) → IsStore C D → (c v : ℕ) → has D c v ≡ true → eqb (size (getD D c 0)) 1 ≡ true
+    → 2 ^ valueOf (getD D c 0) ≡ getD D c 0
+unfolding has
+single-mask C D d c v h e =
+    mask-ext 32 (2 ^ valueOf (getD D c 0)) (getD D c 0) (pow-lt (in-store C D d c (valueOf (getD D c 0)) own .1)) (d .bits c)
+    (λ u l. same-test _ _ (λ q. rw (bit-pow-only (valueOf (getD D c 0)) u q) own) (λ q. rw (single-same C D d c e u _ q own) (bit-pow (valueOf (getD D c 0)))))
+  where
+    own : has D c (valueOf (getD D c 0)) ≡ true
+    own = value-has C D d c v h
+
+-- a column with a value and no second is single
+pub single-column : (C : ℕ) (D : List ℕ) → IsStore C D → (c v : ℕ) → has D c v ≡ true → ltb 1 (size (getD D c 0)) ≡ false → eqb (size (getD D c 0)) 1 ≡ true
+unfolding has
+single-column C D d c v h n =
+    eq-eqb (size (getD D c 0)) 1 (omega (arith, some-count 32 (λ v. bit v (getD D c 0)) v (in-store C D d c v h .1) h, ltb-false 1 (size (getD D c 0)) n))
+
+-- one with two or more is not
+pub many-column : (m : ℕ) → ltb 1 (size m) ≡ true → eqb (size m) 1 ≡ false
+many-column m h = ne-eqb (size m) 1 (λ e. omega (arith, ltb-true 1 (size m) h))
+
 getD-map : (f : ℕ → ℕ) (l : List ℕ) (i : ℕ) → i < length l → getD (map f l) i 0 ≡ f (getD l i 0)
 getD-map f [] i h = absurd (not-suc-le-zero h)
 getD-map f (x ∷ xs) zero h = refl
 getD-map f (x ∷ xs) (suc i) h = getD-map f xs i (le-of-suc-le-suc h)
+
+-- where every column is single, the masks of its values are the domains
+pub assigned-masks : (C : ℕ) (D : List ℕ) → IsStore C D → ((c : ℕ) → c < C → (v : ℕ) × (has D c v ≡ true))
+    → ((c : ℕ) → c < C → eqb (size (getD D c 0)) 1 ≡ true) → solutionMasks C (some (map valueOf D)) ≡ D
+assigned-masks C D d h one =
+    ext-getD 0 (map (λ v. 2 ^ v) (map valueOf D)) D long
+    (λ c l.
+    let k : c < C = omega (arith, long, d .columns) in
+    let v = h c k in
+    getD-map (λ v. 2 ^ v) (map valueOf D) c (omega (arith, long, length-map D valueOf))
+    ∙ ap (λ (v : ℕ). 2 ^ v) (getD-map valueOf D c (omega (arith, d .columns)))
+    ∙ single-mask C D d c (v .0) (v .1) (one c k))
+  where
+    long : length (map (λ v. 2 ^ v) (map valueOf D)) ≡ length D
+    long = length-map (map valueOf D) (λ v. 2 ^ v) ∙ length-map D valueOf
 
 -- in a consistent store of single columns the one choice is the first solution
 module _ (b : Book) (p : WellFormed b) (D : List ℕ) (d : IsStore (columnCount b) D) where
@@ -87,10 +126,6 @@ module _ (b : Book) (p : WellFormed b) (D : List ℕ) (d : IsStore (columnCount 
           single-same (columnCount b) D d c (one c k) (getD x c 0) (getD y c 0) (takes c k) (g .takes c k)))
 
 -- ---- one column set to a value, and propagated
--- D with v in column c, closed
-abbrev pub after : Book → List ℕ → ℕ → ℕ → List ℕ
-after b D c v = closure b (assign D c v)
-
 module _ (b : Book) (p : WellFormed b) (D : List ℕ) (d : IsStore (columnCount b) D) (c : ℕ) (l : c < columnCount b) where
   inside : c < length D
   inside = rw (d .columns) l
@@ -203,6 +238,28 @@ module _ (b : Book) (p : WellFormed b) (D : List ℕ) (d : IsStore (columnCount 
                   (best (f .value) e (q .0)
                   (found-iff b (after b D c (f .value)) (after-store (f .value) e) (q .0) .0 (sym (branch-yes (f .value) e) ∙ f .found)) (f .before))
                   ∙ sym (q .1)
+
+  -- the first value with a solution has the first solution of D
+  pub branch-found : ((k : ℕ) → k < c → eqb (size (getD D k 0)) 1 ≡ true) → (v : ℕ) (x : List ℕ) → has D c v ≡ true
+      → firstSolution b (after b D c v) ≡ some x → ((u : ℕ) → u < v → has D c u ≡ true → firstSolution b (after b D c u) ≡ none)
+      → firstSolution b D ≡ some x
+  branch-found one v x h e before =
+      sym (branch-first one)
+      ∙ firstOf-i 32 branch x
+      (record { value = v; inside = in-store (columnCount b) D d c v h .1; found = branch-yes v h ∙ e; before = λ u q. go u q (either (has D c u)) })
+    where
+      go : (u : ℕ) → u < v → (has D c u ≡ true) ⊎ (has D c u ≡ false) → branch u ≡ none
+      go u q (inl i) = branch-yes u i ∙ before u q i
+      go u q (inr i) = branch-no u i
+
+  -- where no value has one, D has none
+  pub branch-failed : ((k : ℕ) → k < c → eqb (size (getD D k 0)) 1 ≡ true) → ((u : ℕ) → has D c u ≡ true → firstSolution b (after b D c u) ≡ none)
+      → firstSolution b D ≡ none
+  branch-failed one each = sym (branch-first one) ∙ firstOf-no 32 branch (λ u q. go u (either (has D c u)))
+    where
+      go : (u : ℕ) → (has D c u ≡ true) ⊎ (has D c u ≡ false) → branch u ≡ none
+      go u (inl i) = branch-yes u i ∙ each u i
+      go u (inr i) = branch-no u i
 
 -- ---- the search
 -- the search at D, column c

@@ -19,6 +19,10 @@ openColumn C D = lowest C (λ c. not (eqb (size (getD D c 0)) 1))
 unfoldable pub valueOf : ℕ → ℕ
 valueOf m = lowest 32 (λ v. bit v m)
 
+-- column c of D set to the value v, and settled
+abbrev pub after : Book → List ℕ → ℕ → ℕ → List ℕ
+after b D c v = closure b (assign D c v)
+
 -- "The search sets the lowest column that isn't single to each of its values in rising order and settles; picking a column and trying
 -- its values take turns until every column is single." At most k values are set one below the other
 unfoldable pub searchFrom : Book → ℕ → List ℕ → Option (List ℕ)
@@ -30,7 +34,7 @@ searchFrom b (suc k) D =
           let c = openColumn (columnCount b) D in
           elim (ltb c (columnCount b)) [
             | false ↦ some (map valueOf D)
-            | true ↦ firstOf 32 (λ v. elim (has D c v) [ true ↦ searchFrom b k (closure b (assign D c v)) | false ↦ none ])
+            | true ↦ firstOf 32 (λ v. elim (has D c v) [ true ↦ searchFrom b k (after b D c v) | false ↦ none ])
           ]
     ]
 

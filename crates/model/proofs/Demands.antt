@@ -74,13 +74,26 @@ answer-refused b L o = go (either (eqb (kind o) 4 && isAccepted b L o))
     go (inl p) = ap (λ (a : Answer). a .refused) (answer-finish b L o p) ∙ sym (eqb-true _ 0 (and-r (eqb (kind o) 4) _ p))
     go (inr q) = ap (λ (a : Answer). a .refused) (answer-other b L o q)
 
-bytes-0 : (a : Answer) → byte (answerBytes a) 0 ≡ a .refused
+-- the bytes before the domains
+pub bytes-0 : (a : Answer) → byte (answerBytes a) 0 ≡ a .refused
 unfolding answerBytes
 bytes-0 a = refl
 
-bytes-1 : (a : Answer) → byte (answerBytes a) 1 ≡ a .status
+pub bytes-1 : (a : Answer) → byte (answerBytes a) 1 ≡ a .status
 unfolding answerBytes
 bytes-1 a = refl
+
+pub bytes-2 : (a : Answer) → byte (answerBytes a) 2 ≡ a .depth
+unfolding answerBytes
+bytes-2 a = refl
+
+pub bytes-3 : (a : Answer) → byte (answerBytes a) 3 ≡ a .outcome
+unfolding answerBytes
+bytes-3 a = refl
+
+pub bytes-4 : (a : Answer) → byte (answerBytes a) 4 ≡ a .done
+unfolding answerBytes
+bytes-4 a = refl
 
 -- bytes 8 on are the domains shown
 pub bytes-8-on : (a : Answer) (i : ℕ) → 8 ≤ i → byte (answerBytes a) i ≡ getD (domainBytes (a .shown) 16) (i - 8) 0
@@ -88,10 +101,6 @@ unfolding answerBytes
 bytes-8-on a i p =
     let e : i ≡ suc (suc (suc (suc (suc (suc (suc (suc (i - 8)))))))) = omega arith in
     ap (λ (j : ℕ). byte (answerBytes a) j) e
-
-bytes-4 : (a : Answer) → byte (answerBytes a) 4 ≡ a .done
-unfolding answerBytes
-bytes-4 a = refl
 
 -- ---- demand 1
 -- a refused order changes nothing

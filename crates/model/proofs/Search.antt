@@ -66,7 +66,7 @@ single-column C D d c v h n =
 pub many-column : (m : ℕ) → ltb 1 (size m) ≡ true → eqb (size m) 1 ≡ false
 many-column m h = ne-eqb (size m) 1 (λ e. omega (arith, ltb-true 1 (size m) h))
 
-getD-map : (f : ℕ → ℕ) (l : List ℕ) (i : ℕ) → i < length l → getD (map f l) i 0 ≡ f (getD l i 0)
+pub getD-map : (f : ℕ → ℕ) (l : List ℕ) (i : ℕ) → i < length l → getD (map f l) i 0 ≡ f (getD l i 0)
 getD-map f [] i h = absurd (not-suc-le-zero h)
 getD-map f (x ∷ xs) zero h = refl
 getD-map f (x ∷ xs) (suc i) h = getD-map f xs i (le-of-suc-le-suc h)

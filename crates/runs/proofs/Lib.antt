@@ -1,0 +1,4 @@
+pub mod Spaces
+pub mod Runs
+pub mod Reading
+pub mod Promises

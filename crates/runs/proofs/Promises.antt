@@ -1,0 +1,314 @@
+-- The claims of specs/Promises.antt, proved. Assumes nothing.
+-- ---- a right list has at most 256 orders, so a count is no refusal
+use mathlib.Core.Path.{_∙_, _≡_, ap, refl, subst, sym}
+use mathlib.Core.Bool.{Bool, false, true}
+use mathlib.Core.Logic.{_↔_, _⊎_, inl, inr}
+use mathlib.Core.List.{List, [], _∷_}
+use Prim.Native.Nat.{_*_, _+_, _-_, _/_, _<_, _^_, _≤_, suc, zero, ℕ}
+use native.Mathlib.Numerals.{add-one}
+use native.Mathlib.Omega.{arith}
+use lib.Dec.{eqb, leb, ltb}
+use lib.ListN.{drop, getD, length}
+use lib.Seq.{getD-append-add, getD-drop, getD-take}
+use borrow.Author.Tests.{eqb-false, eqb-true, leb-false, leb-true, ltb-false, ne-eqb}
+use Rattle.model.specs.Answers.{Answer, acceptedCount, acceptedFrom, answer, answerBytes, answers, opening, showing}
+use Rattle.model.specs.Books.{Book, Fails, Stays, WellFormed, columnCount}
+use Rattle.model.specs.Choices.{first}
+use Rattle.model.specs.Demands.{ShowsFinish, ShowsState}
+use Rattle.model.specs.Masks.{bit, size}
+use Rattle.model.specs.Orders.{Entry, allowed, byte, depth, isAccepted, kind, push, refusal, trail, trailFrom}
+use Rattle.model.specs.Stores.{has}
+use Rattle.model.specs.Tests.{count, oneIf, sum, tab}
+use Rattle.model.proofs.Demands.{answer-tells, bytes-1, bytes-2, bytes-3, claim1, claim2}
+use Rattle.model.proofs.Refusals.{push-finish, push-refused}
+use Rattle.model.proofs.Search.{getD-map}
+use Rattle.model.proofs.Tests.{below, either, getD-tab, getD-tab-out, length-tab, or-false-l, sum-last, sum-same}
+use Rattle.model.proofs.Trails.{accepted-snoc, domains-store, trail-snoc}
+use Rattle.book.specs.Decoding.{bookOf}
+use Rattle.book.specs.Verdicts.{Accepted, accepted, checkResult}
+use Rattle.book.proofs.Decoded.{accepted-right, right-formed}
+use Rattle.engine.specs.Lists.{orderAt, ordersOf, ordersTo}
+use Rattle.engine.proofs.Lists.{orders-more, tab-last}
+use Rattle.runs.specs.Promises.{AcceptedRun, AcceptedRuns, AnyRun, AnyRuns, IsFinish, byteOf, domainOf, standing}
+use Rattle.runs.specs.Results.{runRefusal, runResult, runSpace, spaceNeeded, wrongList}
+use Rattle.runs.specs.Spaces.{allBytes, written}
+use Rattle.runs.proofs.Reading.{answer-depth, domain-back, shown-small}
+use Rattle.runs.proofs.Runs.{answers-at, length-answers}
+use Rattle.runs.proofs.Spaces.{answer-part, length-all, length-written}
+
+pub right-list : (o : List ℕ) → wrongList o ≡ false → length o ≤ 2048
+unfolding wrongList
+right-list o e = ltb-false 2048 (length o) (or-false-l (ltb 2048 (length o)) _ e)
+
+one-most : (t : Bool) → oneIf t ≤ 1
+one-most true = omega arith
+one-most false = omega arith
+
+accepted-few : (b : Book) (L : List Entry) (os : List (List ℕ)) → acceptedFrom b L os ≤ length os
+unfolding acceptedFrom
+accepted-few b L [] = omega arith
+accepted-few b L (o ∷ os) = omega (arith, one-most (isAccepted b L o), accepted-few b (push b L o) os)
+
+-- ---- what an accepted run tells of its input
+pub record RightInput (b o : List ℕ) (room : ℕ) : Type 0 where
+  pub book : Accepted b
+  pub list : wrongList o ≡ false
+  pub enough : spaceNeeded o ≤ room
+
+module _ (b o : List ℕ) (room : ℕ) where
+  pub right-input : runRefusal b o room ≡ 0 → RightInput b o room
+  unfolding runRefusal
+  right-input e = go (either (leb 65536 (checkResult b))) (either (wrongList o)) (either (ltb room (spaceNeeded o)))
+    where
+      go : (leb 65536 (checkResult b) ≡ true) ⊎ (leb 65536 (checkResult b) ≡ false) → (wrongList o ≡ true) ⊎ (wrongList o ≡ false)
+          → (ltb room (spaceNeeded o) ≡ true) ⊎ (ltb room (spaceNeeded o) ≡ false) → RightInput b o room
+      go (inl p) q r = let z : checkResult b ≡ 0 = rw p at e in absurd (omega (arith, leb-true 65536 (checkResult b) p))
+      go (inr p) (inl q) r = let z : 10 * 65536 + 0 ≡ 0 = rw (p, q) at e in absurd (omega arith)
+      go (inr p) (inr q) (inl r) = let z : 11 * 65536 + spaceNeeded o ≡ 0 = rw (p, q, r) at e in absurd (omega arith)
+      go (inr p) (inr q) (inr r) = record { book = leb-false 65536 (checkResult b) p; list = q; enough = ltb-false room (spaceNeeded o) r }
+
+  -- a refusal is 65,536 or more
+  pub refusal-large : (runRefusal b o room ≡ 0 → ⊥) → 65536 ≤ runRefusal b o room
+  unfolding runRefusal
+  refusal-large n = go (either (leb 65536 (checkResult b))) (either (wrongList o)) (either (ltb room (spaceNeeded o)))
+    where
+      go : (leb 65536 (checkResult b) ≡ true) ⊎ (leb 65536 (checkResult b) ≡ false) → (wrongList o ≡ true) ⊎ (wrongList o ≡ false)
+          → (ltb room (spaceNeeded o) ≡ true) ⊎ (ltb room (spaceNeeded o) ≡ false) → 65536 ≤ runRefusal b o room
+      go (inl p) q r = rw p (leb-true 65536 (checkResult b) p)
+      go (inr p) (inl q) r = rw (p, q) (omega arith)
+      go (inr p) (inr q) (inl r) = rw (p, q, r) (omega arith)
+      go (inr p) (inr q) (inr r) = absurd (n (rw (p, q, r)))
+
+  pub result-accepted : runRefusal b o room ≡ 0 → runResult b o room ≡ acceptedCount (bookOf b) (ordersOf o)
+  unfolding runResult
+  result-accepted e = rw e
+
+  pub result-refused : (runRefusal b o room ≡ 0 → ⊥) → runResult b o room ≡ runRefusal b o room
+  unfolding runResult
+  result-refused n = rw (ne-eqb (runRefusal b o room) 0 n)
+
+  result-small : runRefusal b o room ≡ 0 → runResult b o room < 65536
+  result-small e =
+      omega (
+        arith,
+        result-accepted e,
+        accepted-few (bookOf b) [] (ordersOf o),
+        length-tab (length o / 8) (orderAt o),
+        right-list o (right-input e .list),
+      )
+
+module _ (b o space : List ℕ) where
+  pub space-accepted : runRefusal b o (length space) ≡ 0 → runSpace b o space ≡ written (answers (bookOf b) (ordersOf o)) space
+  unfolding runSpace
+  space-accepted e = rw e
+
+  pub space-refused : (runRefusal b o (length space) ≡ 0 → ⊥) → runSpace b o space ≡ space
+  unfolding runSpace
+  space-refused n = rw (ne-eqb (runRefusal b o (length space)) 0 n)
+
+  zero-or : (runRefusal b o (length space) ≡ 0) ⊎ (runRefusal b o (length space) ≡ 0 → ⊥)
+  zero-or = go (either (eqb (runRefusal b o (length space)) 0))
+    where
+      go : (eqb (runRefusal b o (length space)) 0 ≡ true) ⊎ (eqb (runRefusal b o (length space)) 0 ≡ false)
+          → (runRefusal b o (length space) ≡ 0) ⊎ (runRefusal b o (length space) ≡ 0 → ⊥)
+      go (inl e) = inl (eqb-true _ 0 e)
+      go (inr e) = inr (eqb-false _ 0 e)
+
+  -- ---- demand 1, of any run
+  any-run : AnyRun b o space
+  any-run = record {
+    refused-run = λ l. space-refused (λ e. omega (arith, result-small b o (length space) e));
+    untouched = λ j l. rest j l zero-or;
+    same-length = long zero-or;
+    accepted-run = (λ l. small l zero-or, λ e. result-small b o (length space) e);
+  }
+    where
+      as-long : length (answers (bookOf b) (ordersOf o)) ≡ length o / 8 + 1
+      as-long = length-answers (bookOf b) o (length o / 8)
+
+      rest : (j : ℕ) → spaceNeeded o ≤ j → (runRefusal b o (length space) ≡ 0) ⊎ (runRefusal b o (length space) ≡ 0 → ⊥) → byte (runSpace b o space) j ≡ byte space j
+      rest j l (inr n) = ap (λ (s : List ℕ). byte s j) (space-refused n)
+      rest j l (inl e) =
+          let k : j ≡ length (allBytes (answers (bookOf b) (ordersOf o))) + (j - spaceNeeded o) = omega (arith, length-all (answers (bookOf b) (ordersOf o)), as-long) in
+          let m : 72 * length (answers (bookOf b) (ordersOf o)) + (j - spaceNeeded o) ≡ j = omega (arith, as-long) in
+          ap (λ (s : List ℕ). byte s j) (space-accepted e)
+          ∙ ap (byte (written (answers (bookOf b) (ordersOf o)) space)) k
+          ∙ getD-append-add (allBytes (answers (bookOf b) (ordersOf o))) (drop (72 * length (answers (bookOf b) (ordersOf o))) space) (j - spaceNeeded o) 0
+          ∙ getD-drop (72 * length (answers (bookOf b) (ordersOf o))) space (j - spaceNeeded o) 0
+          ∙ ap (byte space) m
+
+      long : (runRefusal b o (length space) ≡ 0) ⊎ (runRefusal b o (length space) ≡ 0 → ⊥) → length (runSpace b o space) ≡ length space
+      long (inr n) = ap length (space-refused n)
+      long (inl e) =
+          ap length (space-accepted e)
+          ∙ length-written (answers (bookOf b) (ordersOf o)) space (omega (arith, as-long, right-input b o (length space) e .enough))
+
+      small : runResult b o (length space) < 65536 → (runRefusal b o (length space) ≡ 0) ⊎ (runRefusal b o (length space) ≡ 0 → ⊥) → runRefusal b o (length space) ≡ 0
+      small l (inl e) = e
+      small l (inr n) = absurd (omega (arith, result-refused b o (length space) n, refusal-large b o (length space) n))
+
+  -- ---- an accepted run
+  module _ (e : runRefusal b o (length space) ≡ 0) where
+    abbrev bk : Book
+    bk = bookOf b
+
+    abbrev n : ℕ
+    n = length o / 8
+
+    abbrev S : List ℕ
+    S = runSpace b o space
+
+    formed : WellFormed bk
+    formed = right-formed b (accepted-right b (right-input b o (length space) e .book))
+
+    -- the trail after one order more
+    stands-more : (i : ℕ) → standing b o (i + 1) ≡ push bk (standing b o i) (orderAt o i)
+    stands-more i = ap (trail bk) (orders-more o i) ∙ trail-snoc bk [] (ordersTo o i) (orderAt o i)
+
+    -- answer i as the model has it
+    at : (i : ℕ) (a : Answer) → i ≤ n → getD (answers bk (ordersOf o)) i (opening bk) ≡ a → (j : ℕ) → j < 72 → byteOf S i j ≡ byte (answerBytes a) j
+    at i a l q j m =
+        ap (λ (s : List ℕ). byteOf s i j) (space-accepted e)
+        ∙ sym (getD-drop (72 * i) (written (answers bk (ordersOf o)) space) j 0)
+        ∙ sym (getD-take 72 (drop (72 * i) (written (answers bk (ordersOf o)) space)) j 0 m)
+        ∙ ap (λ (s : List ℕ). byte s j) (answer-part (answers bk (ordersOf o)) space i (opening bk) (omega (arith, length-answers bk o n)) ∙ ap answerBytes q)
+
+    -- answer i + 1
+    ordered : (i : ℕ) → i < n → (j : ℕ) → j < 72 → byteOf S (i + 1) j ≡ byte (answerBytes (answer bk (standing b o i) (orderAt o i))) j
+    ordered i l = at (i + 1) (answer bk (standing b o i) (orderAt o i)) (omega arith) (rw add-one (answers-at bk o n i (opening bk) l))
+
+    -- answer 0
+    opened : (j : ℕ) → j < 72 → byteOf S 0 j ≡ byte (answerBytes (opening bk)) j
+    opened = at 0 (opening bk) (omega arith) refl
+
+    no-orders : standing b o 0 ≡ []
+    unfolding tab trailFrom
+    no-orders = refl
+
+    -- of every answer: of the opening, and of one after each order
+    each : (P : ℕ → Type 0) → P 0 → ((i : ℕ) → i < n → P (i + 1)) → (i : ℕ) → i ≤ n → P i
+    each P z s zero l = z
+    each P z s (suc i) l = let e : i + 1 ≡ suc i = omega arith in subst P e (s i (omega arith))
+
+    refusals : (i : ℕ) → i < n → byteOf S (i + 1) 0 ≡ refusal bk (standing b o i) (orderAt o i)
+    refusals i l = ordered i l 0 (omega arith) ∙ claim1 bk .byte-0 (standing b o i) (orderAt o i)
+
+    -- ---- the count
+    count-to : (m : ℕ) → acceptedCount bk (ordersTo o m) ≡ count m (λ i. isAccepted bk (standing b o i) (orderAt o i))
+    unfolding count sum tab acceptedFrom
+    count-to zero = refl
+    count-to (suc m) =
+        ap (acceptedCount bk) (tab-last m (orderAt o))
+        ∙ accepted-snoc bk [] (ordersTo o m) (orderAt o m)
+        ∙ ap (λ (k : ℕ). k + oneIf (isAccepted bk (standing b o m) (orderAt o m))) (count-to m)
+        ∙ sym (sum-last m (λ i. oneIf (isAccepted bk (standing b o i) (orderAt o i))))
+
+    counted : runResult b o (length space) ≡ count n (λ i. eqb (byteOf S (i + 1) 0) 0)
+    unfolding count
+    counted =
+        result-accepted b o (length space) e
+        ∙ count-to n
+        ∙ sum-same n (λ i. oneIf (isAccepted bk (standing b o i) (orderAt o i))) (λ i. oneIf (eqb (byteOf S (i + 1) 0) 0))
+        (λ i l. ap (λ (r : ℕ). oneIf (eqb r 0)) (sym (refusals i l)))
+
+    -- ---- the domains shown
+    shows-stays : (i : ℕ) (a : Answer) (L : List Entry) → ((j : ℕ) → j < 72 → byteOf S i j ≡ byte (answerBytes a) j) → ((c : ℕ) → getD (a .shown) c 0 < 2 ^ 32)
+        → ShowsState bk L a → (c v : ℕ) → c < 16 → (bit v (domainOf S i c) ≡ true) ↔ Stays bk (allowed bk L) c v
+    unfolding has
+    shows-stays i a L bytes small s c v l =
+        let d = domain-back S i c a l (small c) bytes in
+        (λ y. s .stays c v .0 (sym (ap (bit v) d) ∙ y), λ y. ap (bit v) d ∙ s .stays c v .1 y)
+
+    stays : (i : ℕ) → i ≤ n → (IsFinish o S i → ⊥) → (c v : ℕ) → c < 16 → (bit v (domainOf S i c) ≡ true) ↔ Stays bk (allowed bk (standing b o i)) c v
+    unfolding showing
+    stays =
+        each (λ i. (IsFinish o S i → ⊥) → (c v : ℕ) → c < 16 → (bit v (domainOf S i c) ≡ true) ↔ Stays bk (allowed bk (standing b o i)) c v)
+        (λ f. rw no-orders (shows-stays 0 (opening bk) [] opened (domains-store bk [] .bits) (claim2 bk formed .1 .opened)))
+        (λ i l f.
+        rw (stands-more i)
+        (shows-stays (i + 1) (answer bk (standing b o i) (orderAt o i)) (push bk (standing b o i) (orderAt o i)) (ordered i l)
+        (shown-small bk (standing b o i) (orderAt o i))
+        (claim2 bk formed .1 .ordered (standing b o i) (orderAt o i)
+        (λ k z. let q : i + 1 - 1 ≡ i = omega arith in f (record { ordered = omega arith; of-kind = rw q k; accepted = refusals i l ∙ z })))))
+
+    failed : (i : ℕ) → i ≤ n → (byteOf S i 1 ≡ 0) ↔ Fails bk (allowed bk (standing b o i))
+    failed =
+        each (λ i. (byteOf S i 1 ≡ 0) ↔ Fails bk (allowed bk (standing b o i)))
+        (rw no-orders (from 0 (opened 1 (omega arith) ∙ bytes-1 (opening bk)) (claim2 bk formed .1 .opened .failed)))
+        (λ i l.
+        rw (stands-more i)
+        (from (i + 1)
+        (ordered i l 1 (omega arith) ∙ bytes-1 (answer bk (standing b o i) (orderAt o i)) ∙ answer-tells bk (standing b o i) (orderAt o i) .status)
+        (claim2 bk formed .0 (push bk (standing b o i) (orderAt o i)) .failed)))
+      where
+        from : (i : ℕ) {s : ℕ} {X : Type 0} → byteOf S i 1 ≡ s → (s ≡ 0) ↔ X → (byteOf S i 1 ≡ 0) ↔ X
+        from i q w = (λ y. w .0 (sym q ∙ y), λ x. q ∙ w .1 x)
+
+    deep : (i : ℕ) → i ≤ n → byteOf S i 2 ≡ depth (standing b o i)
+    unfolding showing
+    deep =
+        each (λ i. byteOf S i 2 ≡ depth (standing b o i)) (opened 2 (omega arith) ∙ bytes-2 (opening bk) ∙ ap depth (sym no-orders))
+        (λ i l.
+        ordered i l 2 (omega arith)
+        ∙ bytes-2 (answer bk (standing b o i) (orderAt o i))
+        ∙ answer-depth bk (standing b o i) (orderAt o i)
+        ∙ ap depth (sym (stands-more i)))
+
+    -- ---- finishes
+    -- of an accepted finish: the answer, which shows what its trail's finish finds
+    pub record Finish (i : ℕ) : Type 0 where
+      pub shown : Answer
+      pub bytes : (j : ℕ) → j < 72 → byteOf S i j ≡ byte (answerBytes shown) j
+      pub small : (c : ℕ) → getD (shown .shown) c 0 < 2 ^ 32
+      pub shows : ShowsFinish bk (standing b o i) shown
+
+    finish : (i : ℕ) → i ≤ n → IsFinish o S i → Finish i
+    finish =
+        each (λ i. IsFinish o S i → Finish i) (λ f. absurd (let z = f .ordered in omega arith))
+        (λ i l f.
+        let q : i + 1 - 1 ≡ i = omega arith in
+        let k : kind (orderAt o i) ≡ 4 = rw q at (f .of-kind) in
+        record {
+          shown = answer bk (standing b o i) (orderAt o i);
+          bytes = ordered i l;
+          small = shown-small bk (standing b o i) (orderAt o i);
+          shows =
+              rw (stands-more i, push-finish bk (standing b o i) (orderAt o i) k)
+              (claim2 bk formed .1 .finished (standing b o i) (orderAt o i) k (sym (refusals i l) ∙ f .accepted));
+        })
+
+    third : (i : ℕ) {X : Type 0} (k : ℕ) → (f : Finish i) → (f .shown .outcome ≡ k) ↔ X → (byteOf S i 3 ≡ k) ↔ X
+    third i k f w =
+        let q = f .bytes 3 (omega arith) ∙ bytes-3 (f .shown) in
+        (λ y. w .0 (sym q ∙ y), λ x. q ∙ w .1 x)
+
+    pub accepted-run : AcceptedRun b o S n (runResult b o (length space))
+    accepted-run = record {
+      counted = counted;
+      refusals = refusals;
+      refused-order = λ i l z. stands-more i ∙ push-refused bk (standing b o i) (orderAt o i) (λ y. z (refusals i l ∙ y));
+      deep = deep;
+      stays = stays;
+      failed = failed;
+      found = λ i l f. let g = finish i l f in third i 1 g (g .shows .found);
+      not-found = λ i l f. let g = finish i l f in third i 2 g (g .shows .not-found);
+      first = λ i l f x q c m.
+          let g = finish i l f in
+          domain-back S i c (g .shown) (omega (arith, formed .few-columns)) (g .small c) (g .bytes)
+          ∙ ap (λ (D : List ℕ). getD D c 0) (g .shows .first x q)
+          ∙ getD-map (λ v. 2 ^ v) x c (rw (q .solution .size) m);
+      zeros = λ i l f q c m.
+          let g = finish i l f in
+          domain-back S i c (g .shown) m (g .small c) (g .bytes) ∙ ap (λ (D : List ℕ). getD D c 0) (g .shows .zeros q) ∙ no-masks c (below c (columnCount bk));
+    }
+      where
+        no-masks : (c : ℕ) → (c < columnCount bk) ⊎ (columnCount bk ≤ c) → _≡_ {A = ℕ} (getD (tab (columnCount bk) (λ c. 0)) c 0) 0
+        no-masks c (inl l) = getD-tab {A = ℕ} 0 (columnCount bk) (λ c. 0) c l
+        no-masks c (inr l) = getD-tab-out (columnCount bk) (λ c. 0) c l
+
+-- ---- the claims
+pub anyRuns : AnyRuns
+anyRuns b o space = any-run b o space
+
+pub acceptedRuns : AcceptedRuns
+acceptedRuns b o space e = accepted-run b o space e

@@ -1,0 +1,4 @@
+pub mod Spaces
+pub mod Results
+pub mod Runs
+pub mod Promises

@@ -1,0 +1,83 @@
+-- What the two equations of a run come to, in the customer's words. b, o and space are the book, the orders and the answer space handed
+-- over; n is the number of orders. Proved in proofs/Promises.antt.
+use mathlib.Core.Path.{_≡_}
+use mathlib.Core.Bool.{true}
+use mathlib.Core.Logic.{_↔_}
+use mathlib.Core.List.{List}
+use Prim.Native.Nat.{_*_, _+_, _-_, _/_, _<_, _^_, _≤_, ℕ}
+use lib.Dec.{eqb}
+use lib.ListN.{getD, length}
+use Rattle.model.specs.Books.{Fails, Stays, columnCount}
+use Rattle.model.specs.Masks.{bit}
+use Rattle.model.specs.Orders.{Entry, allowed, byte, depth, domains, kind, refusal, trail}
+use Rattle.model.specs.Solutions.{FirstSolution, NoSolution, Solution}
+use Rattle.model.specs.Tests.{count}
+use Rattle.book.specs.Decoding.{bookOf}
+use Rattle.engine.specs.Lists.{orderAt, ordersTo}
+use Rattle.runs.specs.Results.{runRefusal, runResult, runSpace, spaceNeeded}
+
+-- ---- reading an answer space
+-- byte j of answer i
+abbrev pub byteOf : List ℕ → ℕ → ℕ → ℕ
+byteOf space i j = byte space (72 * i + j)
+
+-- domain c of answer i: "bytes 8 to 71 sixteen domains of 32 bits"
+abbrev pub domainOf : List ℕ → ℕ → ℕ → ℕ
+domainOf space i c =
+    byteOf space i (8 + 4 * c)
+    + 256 * byteOf space i (8 + 4 * c + 1)
+    + 65536 * byteOf space i (8 + 4 * c + 2)
+    + 16777216 * byteOf space i (8 + 4 * c + 3)
+
+-- what stands when answer i is given
+abbrev pub standing : List ℕ → List ℕ → ℕ → List Entry
+standing b o i = trail (bookOf b) (ordersTo o i)
+
+-- answer i is that of an accepted finish; orders are counted from 1
+pub record IsFinish (o space : List ℕ) (i : ℕ) : Type 0 where
+  pub ordered : 1 ≤ i
+  pub of-kind : kind (orderAt o (i - 1)) ≡ 4
+  pub accepted : byteOf space i 0 ≡ 0
+
+-- ---- demand 1: any bytes as book and orders, any answer space
+pub record AnyRun (b o space : List ℕ) : Type 0 where
+  -- "a refused run writes nothing"
+  pub refused-run : 65536 ≤ runResult b o (length space) → runSpace b o space ≡ space
+  -- "writes nothing but answers": "Later bytes of the space are untouched"
+  pub untouched : (j : ℕ) → spaceNeeded o ≤ j → byte (runSpace b o space) j ≡ byte space j
+  pub same-length : length (runSpace b o space) ≡ length space
+  -- a number below 65,536 says that the run was accepted, and no other does
+  pub accepted-run : (runResult b o (length space) < 65536) ↔ (runRefusal b o (length space) ≡ 0)
+
+-- ---- an accepted run; S is the answer space at its end
+pub record AcceptedRun (b o S : List ℕ) (n accepted : ℕ) : Type 0 where
+  -- demand 1: "Accepted: the number of accepted orders", which is the number of answers after the opening with byte 0 equal to 0
+  pub counted : accepted ≡ count n (λ i. eqb (byteOf S (i + 1) 0) 0)
+  -- "byte 0 the refusal or 0": by the order's bytes, the book and what stands
+  pub refusals : (i : ℕ) → i < n → byteOf S (i + 1) 0 ≡ refusal (bookOf b) (standing b o i) (orderAt o i)
+  -- "a refused order changes nothing": no domain and no mark, for the whole standing list stays
+  pub refused-order : (i : ℕ) → i < n → (byteOf S (i + 1) 0 ≡ 0 → ⊥) → standing b o (i + 1) ≡ standing b o i
+  -- "byte 2 depth"
+  pub deep : (i : ℕ) → i ≤ n → byteOf S i 2 ≡ depth (standing b o i)
+  -- demand 2, at every answer: "a value stays exactly when some sound box within the standing narrowings holds it"
+  pub stays : (i : ℕ) → i ≤ n → (IsFinish o S i → ⊥) → (c v : ℕ) → c < 16
+      → (bit v (domainOf S i c) ≡ true) ↔ Stays (bookOf b) (allowed (bookOf b) (standing b o i)) c v
+  -- "dead exactly when there is no sound box"
+  pub failed : (i : ℕ) → i ≤ n → (byteOf S i 1 ≡ 0) ↔ Fails (bookOf b) (allowed (bookOf b) (standing b o i))
+  -- "finish gives the first full set, none exactly when there is none"
+  pub found : (i : ℕ) → i ≤ n → IsFinish o S i
+      → (byteOf S i 3 ≡ 1) ↔ ((x : List ℕ) × Solution (bookOf b) (domains (bookOf b) (standing b o i)) x)
+  pub not-found : (i : ℕ) → i ≤ n → IsFinish o S i → (byteOf S i 3 ≡ 2) ↔ NoSolution (bookOf b) (domains (bookOf b) (standing b o i))
+  pub first : (i : ℕ) → i ≤ n → IsFinish o S i → (x : List ℕ) → FirstSolution (bookOf b) (domains (bookOf b) (standing b o i)) x
+      → (c : ℕ) → c < columnCount (bookOf b) → domainOf S i c ≡ 2 ^ getD x c 0
+  -- "or zeros for none"
+  pub zeros : (i : ℕ) → i ≤ n → IsFinish o S i → NoSolution (bookOf b) (domains (bookOf b) (standing b o i)) → (c : ℕ) → c < 16 → domainOf S i c ≡ 0
+
+-- ---- the claims, of every book, list and space
+abbrev pub AnyRuns : Type 0
+AnyRuns = (b o space : List ℕ) → AnyRun b o space
+
+abbrev pub AcceptedRuns : Type 0
+AcceptedRuns =
+    (b o space : List ℕ) → runRefusal b o (length space) ≡ 0
+    → AcceptedRun b o (runSpace b o space) (length o / 8) (runResult b o (length space))

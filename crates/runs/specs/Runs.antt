@@ -1,0 +1,44 @@
+-- A list of orders on its way: the session, the count and the answer space; and what two whole lists have in common.
+use mathlib.Core.Path.{_≡_}
+use mathlib.Core.List.{List}
+use Prim.Native.Nat.{_/_, ℕ}
+use lib.ListN.{length}
+use Rattle.model.specs.Answers.{acceptedCount, answers, finishing, showing}
+use Rattle.model.specs.Demands.{Demand3}
+use Rattle.model.specs.Orders.{Entry, depth, trail}
+use Rattle.book.specs.Decoding.{bookOf}
+use Rattle.book.specs.Verdicts.{accepted}
+use Rattle.engine.specs.Holds.{Holds}
+use Rattle.engine.specs.Lists.{ordersOf, ordersTo}
+use Rattle.engine.specs.Sessions.{StateIs}
+use Rattle.engine.specs.declared.session.Session.{Session}
+use Rattle.engine.specs.declared.state.State.{State}
+use Rattle.runs.specs.Spaces.{Adds, answerAt, written}
+
+-- ---- one answer
+-- answer i shows the state st at depth d, with the refusal r
+abbrev pub ShowsAt : List ℕ → State → ℕ → ℕ → ℕ → List ℕ → List ℕ → Type 0
+ShowsAt b st d r i space space′ =
+    (L : List Entry) → StateIs b L st → d ≡ depth L → Adds i (showing (bookOf b) L r) space space′
+
+-- answer i is that of an accepted finish
+abbrev pub FinishesAt : List ℕ → State → ℕ → ℕ → List ℕ → List ℕ → Type 0
+FinishesAt b st d i space space′ =
+    (L : List Entry) → StateIs b L st → d ≡ depth L → Adds i (finishing (bookOf b) L) space space′
+
+-- ---- a whole list
+-- after the first n orders, in a space that was `old`
+pub record RanTo (b o old : List ℕ) (n : ℕ) (s : Session) (accepted : ℕ) (space : List ℕ) : Type 0 where
+  pub holds : Holds b (trail (bookOf b) (ordersTo o n)) s
+  pub counts : accepted ≡ acceptedCount (bookOf b) (ordersTo o n)
+  pub wrote : space ≡ written (answers (bookOf b) (ordersTo o n)) old
+
+-- ---- two whole lists
+-- the current domains of a session
+abbrev pub current : Session → List ℕ
+current s = s .now .dom
+
+-- demand 3 of the lists x and y, which ended with the sessions s and t and whose answers stand in the spaces a and d
+abbrev pub Compares : (b x y : List ℕ) → Session → Session → List ℕ → List ℕ → Type 0
+Compares b x y s t a d =
+    Demand3 (bookOf b) Session current (Holds b) (ordersOf x) (ordersOf y) s t (answerAt a (length x / 8)) (answerAt d (length y / 8))

@@ -1,0 +1,1 @@
+// A whole list of orders run over a book, from the opening, with its answers; and two lists compared.

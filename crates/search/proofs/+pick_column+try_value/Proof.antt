@@ -1,0 +1,233 @@
+use mathlib.Core.Path.{refl}
+use Prim.Native.Nat.{_*_, _+_, _<_, ℕ}
+use native.Mathlib.Omega.{arith}
+use borrow.Author.Needs.{needs}
+use borrow.Fn.Kinds.{In}
+use borrow.Fn.PlainCycle.{Measures, is, falls, and}
+use Rattle.engine.proofs.Worklists.{sixteen-columns}
+use Rattle.search.proofs.Branches.{Untried, found-assigned, found-none, picked-found, picked-none, picked-value, untried-all, untried-less}
+use Rattle.search.proofs.Filled.{value-fewer, value-filled, value-none, value-ready, value-found, value-small, valuesLeft}
+use Rattle.search.proofs.pick_column.Reads as pick-column
+use Rattle.search.proofs.pick_column.Kinds as pick-column-kinds
+use Rattle.search.proofs.+pick_column+try_value.Lts-pick_column as pick-column-lts
+use Rattle.search.proofs.try_value.Reads as try-value
+use Rattle.search.proofs.try_value.Kinds as try-value-kinds
+use Rattle.search.proofs.+pick_column+try_value.Lts-try_value as try-value-lts
+use Rattle.engine.proofs.propagate.propagate.Reads as propagate-reads
+use Rattle.engine.proofs.worklist.waiting_for.Reads as waiting-for-reads
+use Rattle.search.proofs.lowest_value.Reads as lowest-value-reads
+use Rattle.search.proofs.nothing.Reads as nothing-reads
+use Rattle.search.proofs.open_column.Reads as open-column-reads
+use Rattle.search.proofs.other_values.Reads as other-values-reads
+use Rattle.words.proofs.bits.only.Reads as only-reads
+use Rattle.search.proofs.+pick_column+try_value.{statement}
+use Rattle.search.proofs.+pick_column+try_value.Tie.{close}
+
+abbrev μ-pick-column : Measures 7 pick-column-kinds.ps ℕ
+μ-pick-column κs a = 2 * valuesLeft (a .0 .now) (a .1 .1 .1 .0 .now) + 1
+
+abbrev μ-try-value : Measures 7 try-value-kinds.ps ℕ
+μ-try-value κs a = 2 * valuesLeft (a .0 .now) (a .1 .1 .1 .0 .now)
+
+abbrev pick-column-at : ℕ → In 7 pick-column-kinds.ps
+pick-column-at t =
+    and 7 pick-column-kinds.ps (is 7 pick-column-kinds.ps μ-pick-column t) pick-column.Pre
+
+abbrev pick-column-below : ℕ → In 7 pick-column-kinds.ps
+pick-column-below t =
+    and 7 pick-column-kinds.ps (falls 7 pick-column-kinds.ps _<_ μ-pick-column t) pick-column.Pre
+
+abbrev try-value-at : ℕ → In 7 try-value-kinds.ps
+try-value-at t = and 7 try-value-kinds.ps (is 7 try-value-kinds.ps μ-try-value t) try-value.Pre
+
+abbrev try-value-below : ℕ → In 7 try-value-kinds.ps
+try-value-below t =
+    and 7 try-value-kinds.ps (falls 7 try-value-kinds.ps _<_ μ-try-value t) try-value.Pre
+
+-- what each of the two knows of the functions that it calls
+abbrev picks : ℕ → pick-column-lts.Claims
+picks t = (
+  open-column-reads.Asked,
+  open-column-reads.Learnt,
+  lowest-value-reads.Asked,
+  lowest-value-reads.Learnt,
+  try-value-below t,
+  try-value.Post,
+  other-values-reads.Asked,
+  other-values-reads.Learnt,
+  nothing-reads.Asked,
+  nothing-reads.Learnt,
+)
+
+abbrev tries : ℕ → try-value-lts.Claims
+tries t = (
+  waiting-for-reads.Asked,
+  waiting-for-reads.Learnt,
+  only-reads.Asked,
+  only-reads.Learnt,
+  propagate-reads.Asked,
+  propagate-reads.Learnt,
+  pick-column-below t,
+  pick-column.Post,
+  nothing-reads.Asked,
+  nothing-reads.Learnt,
+)
+
+abbrev pick-column-Inv-loop : pick-column-lts.InvT-loop
+pick-column-Inv-loop book first mask dom live index limit c rest₀ rest = Untried book dom c rest
+
+abbrev pick-column-μ-loop : pick-column-lts.MeasureT-loop
+pick-column-μ-loop book first mask dom live index limit c rest₀ rest = rest
+
+pick-column-open-column-requires : (t : ℕ) → pick-column-lts.Need-open-column-requires (picks t) (pick-column-at t) pick-column.Post pick-column-Inv-loop pick-column-μ-loop
+pick-column-open-column-requires t c κs = search needs
+
+pick-column-returns : (t : ℕ) → pick-column-lts.Need-returns (picks t) (pick-column-at t) pick-column.Post pick-column-Inv-loop pick-column-μ-loop
+pick-column-returns t c =
+    let p = c .before .before .before .before .pre in
+    let o = c .before .before .open-column .ensures in
+    found-assigned _ (p .1 .0) (p .1 .2) _ o (c .before .if1 .taken) refl refl
+
+pick-column-mul-rest : (t : ℕ) → pick-column-lts.Need-mul-rest (picks t) (pick-column-at t) pick-column.Post pick-column-Inv-loop pick-column-μ-loop
+pick-column-mul-rest t c = search needs
+
+pick-column-element-copy-out-rest : (t : ℕ) → pick-column-lts.Need-element-copy-out-rest (picks t) (pick-column-at t) pick-column.Post pick-column-Inv-loop pick-column-μ-loop
+pick-column-element-copy-out-rest t c = search needs
+
+pick-column-loop-holds : (t : ℕ) → pick-column-lts.Need-loop-holds (picks t) (pick-column-at t) pick-column.Post pick-column-Inv-loop pick-column-μ-loop
+pick-column-loop-holds t c =
+    untried-all _ _ _
+
+pick-column-lowest-value-requires : (t : ℕ) → pick-column-lts.Need-lowest-value-requires (picks t) (pick-column-at t) pick-column.Post pick-column-Inv-loop pick-column-μ-loop
+pick-column-lowest-value-requires t c κs = search needs
+
+pick-column-try-value-requires : (t : ℕ) → pick-column-lts.Need-try-value-requires (picks t) (pick-column-at t) pick-column.Post pick-column-Inv-loop pick-column-μ-loop
+pick-column-try-value-requires t c κs =
+    let p = c .before .before .before .before .before .before .before .pre in
+    let o = c .before .before .before .before .before .open-column .ensures in
+    let l : c .before .before .before .before .before .open-column .result < 16 = omega (arith, o .to, c .before .before .before .before .if1 .left) in
+    let u = c .before .before .loop .inv in
+    (omega (arith, p .0), (p .1 .0, p .1 .1, p .1 .2, picked-value _ (p .1 .0) (p .1 .2) o l u (c .lowest-value .ensures .1)))
+
+pick-column-returns-2 : (t : ℕ) → pick-column-lts.Need-returns-2 (picks t) (pick-column-at t) pick-column.Post pick-column-Inv-loop pick-column-μ-loop
+pick-column-returns-2 t c =
+    let p = c .before .before .before .before .before .before .before .before .before .pre in
+    let o = c .before .before .before .before .before .before .before .open-column .ensures in
+    let l : c .before .before .before .before .before .before .before .open-column .result < 16 = omega (arith, o .to, c .before .before .before .before .before .before .if1 .left) in
+    let u = c .before .before .before .before .loop .inv in
+    let v = c .before .before .lowest-value .ensures in
+    picked-found _ (p .1 .0) (p .1 .2) o l u (v .0) (v .1) (c .before .try-value .ensures) (c .if2 .taken)
+
+pick-column-other-values-requires : (t : ℕ) → pick-column-lts.Need-other-values-requires (picks t) (pick-column-at t) pick-column.Post pick-column-Inv-loop pick-column-μ-loop
+pick-column-other-values-requires t c κs = search needs
+
+pick-column-loop-less : (t : ℕ) → pick-column-lts.Need-loop-less (picks t) (pick-column-at t) pick-column.Post pick-column-Inv-loop pick-column-μ-loop
+pick-column-loop-less t c = search needs
+
+pick-column-loop-again : (t : ℕ) → pick-column-lts.Need-loop-again (picks t) (pick-column-at t) pick-column.Post pick-column-Inv-loop pick-column-μ-loop
+pick-column-loop-again t c =
+    untried-less (c .before .before .before .before .before .loop .inv) (c .before .before .before .lowest-value .ensures .0) (c .other-values .ensures .0) (c .before .before .try-value .ensures) (c .before .if2 .left)
+
+pick-column-nothing-requires : (t : ℕ) → pick-column-lts.Need-nothing-requires (picks t) (pick-column-at t) pick-column.Post pick-column-Inv-loop pick-column-μ-loop
+pick-column-nothing-requires t c κs = search needs
+
+pick-column-returns-3 : (t : ℕ) → pick-column-lts.Need-returns-3 (picks t) (pick-column-at t) pick-column.Post pick-column-Inv-loop pick-column-μ-loop
+pick-column-returns-3 t c =
+    let p = c .before .before .before .before .before .before .before .pre in
+    let o = c .before .before .before .before .before .open-column .ensures in
+    let l : c .before .before .before .before .before .open-column .result < 16 = omega (arith, o .to, c .before .before .before .before .if1 .left) in
+    let u = c .before .before .loop .inv in
+    found-none _ _ (c .nothing .ensures) (picked-none _ (p .1 .0) (p .1 .2) o l u (c .before .loop-test .left))
+
+try-value-cast-column : (t : ℕ) → try-value-lts.Need-cast-column (tries t) (try-value-at t) try-value.Post
+try-value-cast-column t c =
+    let p = c .before .pre .1 in
+    let l = sixteen-columns _ (p .0) _ (p .3 .column) in
+    search (needs, l)
+
+try-value-shl-column : (t : ℕ) → try-value-lts.Need-shl-column (tries t) (try-value-at t) try-value.Post
+try-value-shl-column t c =
+    let p = c .before .pre .1 in
+    let l = sixteen-columns _ (p .0) _ (p .3 .column) in
+    omega (arith, l)
+
+try-value-waiting-for-requires : (t : ℕ) → try-value-lts.Need-waiting-for-requires (tries t) (try-value-at t) try-value.Post
+try-value-waiting-for-requires t c κs = search needs
+
+try-value-only-requires : (t : ℕ) → try-value-lts.Need-only-requires (tries t) (try-value-at t) try-value.Post
+try-value-only-requires t c κs =
+    let p = c .before .before .before .before .before .before .pre .1 in
+    value-small _ (p .0) (p .2) (p .3) refl
+
+try-value-mul-d : (t : ℕ) → try-value-lts.Need-mul-d (tries t) (try-value-at t) try-value.Post
+try-value-mul-d t c =
+    let p = c .before .before .before .before .before .before .before .pre .1 in
+    let l = sixteen-columns _ (p .0) _ (p .3 .column) in
+    search (needs, l)
+
+try-value-array-write-d : (t : ℕ) → try-value-lts.Need-array-write-d (tries t) (try-value-at t) try-value.Post
+try-value-array-write-d t c =
+    let p = c .before .before .before .before .before .before .before .pre .1 in
+    let l = sixteen-columns _ (p .0) _ (p .3 .column) in
+    l
+
+try-value-propagate-requires : (t : ℕ) → try-value-lts.Need-propagate-requires (tries t) (try-value-at t) try-value.Post
+try-value-propagate-requires t c κs =
+    let p = c .before .before .before .before .before .before .before .before .before .before .before .pre .1 in
+    (p .0, p .1, value-ready _ (p .0) (p .2) (p .3) (c .before .before .before .before .only .ensures) (p .1) (c .before .before .before .before .before .before .before .before .before .waiting-for .ensures))
+
+try-value-pick-column-requires : (t : ℕ) → try-value-lts.Need-pick-column-requires (tries t) (try-value-at t) try-value.Post
+try-value-pick-column-requires t c κs =
+    let q = c .before .before .before .before .before .before .before .before .before .before .before .before .before .before .before .before .before .pre in
+    let p = q .1 in
+    let m = c .before .before .before .before .before .before .before .before .before .before .only .ensures in
+    let r = c .before .before .before .before .before .propagate .ensures in
+    let k = c .before .before .before .before .if1 .taken in
+    (omega (arith, q .0, value-fewer _ (p .0) (p .2) (p .3) m r k), (p .0, p .1, value-filled _ (p .0) (p .2) (p .3) m r k))
+
+try-value-returns : (t : ℕ) → try-value-lts.Need-returns (tries t) (try-value-at t) try-value.Post
+try-value-returns t c =
+    let p = c .before .before .before .before .before .before .before .before .before .before .before .before .before .before .before .before .before .before .pre .1 in
+    value-found _ (p .0) (p .2) (p .3) (c .before .before .before .before .before .before .before .before .before .before .before .only .ensures) (c .before .before .before .before .before .before .propagate .ensures) (c .before .before .before .before .before .if1 .taken) (c .pick-column .ensures)
+
+try-value-nothing-requires : (t : ℕ) → try-value-lts.Need-nothing-requires (tries t) (try-value-at t) try-value.Post
+try-value-nothing-requires t c κs = search needs
+
+try-value-returns-2 : (t : ℕ) → try-value-lts.Need-returns-2 (tries t) (try-value-at t) try-value.Post
+try-value-returns-2 t c =
+    let p = c .before .before .before .before .before .before .before .before .before .before .before .before .before .before .pre .1 in
+    found-none _ _ (c .nothing .ensures) (value-none _ (p .0) (p .2) (p .3) (c .before .before .before .before .before .before .before .only .ensures) (c .before .before .propagate .ensures) (c .before .if1 .left))
+
+pub +pick-column+try-value-spec : {M : Type 1} → statement M
++pick-column+try-value-spec = close μ-pick-column μ-try-value (λ t. pick-column-lts.spec (picks t)
+    (pick-column-at t)
+    pick-column.Post
+    pick-column-Inv-loop
+    pick-column-μ-loop
+    (pick-column-open-column-requires t)
+    (pick-column-returns t)
+    (pick-column-mul-rest t)
+    (pick-column-element-copy-out-rest t)
+    (pick-column-loop-holds t)
+    (pick-column-lowest-value-requires t)
+    (pick-column-try-value-requires t)
+    (pick-column-returns-2 t)
+    (pick-column-other-values-requires t)
+    (pick-column-loop-less t)
+    (pick-column-loop-again t)
+    (pick-column-nothing-requires t)
+    (pick-column-returns-3 t))
+    λ t. try-value-lts.spec (tries t)
+    (try-value-at t)
+    try-value.Post
+    (try-value-cast-column t)
+    (try-value-shl-column t)
+    (try-value-waiting-for-requires t)
+    (try-value-only-requires t)
+    (try-value-mul-d t)
+    (try-value-array-write-d t)
+    (try-value-propagate-requires t)
+    (try-value-pick-column-requires t)
+    (try-value-returns t)
+    (try-value-nothing-requires t)
+    (try-value-returns-2 t)

@@ -1,0 +1,28 @@
+use borrow.Author.Needs.{needs}
+use Rattle.search.proofs.Finishing.{finish-failed, finish-filled, finish-found}
+use Rattle.search.proofs.finish.Statement.{statement}
+use Rattle.search.proofs.finish.Tie as tie
+
+array-read-if1 : tie.Need-array-read-if1
+array-read-if1 c = search needs
+
+nothing-requires : tie.Need-nothing-requires
+nothing-requires c κs = search needs
+
+returns : tie.Need-returns
+returns c =
+    finish-failed _ (c .before .before .before .before .pre .0) _ _ (c .nothing .ensures) (c .before .if1 .taken)
+
+pick-column-requires : tie.Need-pick-column-requires
+pick-column-requires c κs =
+    let e = c .before .before .before .before .before .before .before in
+    let p = e .before .before .before .pre in
+    (p .0, p .1, finish-filled _ (p .0) _ (p .2) (e .if1 .left))
+
+returns-2 : tie.Need-returns-2
+returns-2 c =
+    finish-found _ (c .before .before .before .before .before .before .before .before .before .before .before .pre .0) _ _ (c .pick-column .ensures)
+
+pub finish-spec : {M : Type 1} → statement M
+finish-spec =
+    tie.close (tie.spec array-read-if1 nothing-requires returns pick-column-requires returns-2)

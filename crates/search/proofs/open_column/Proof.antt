@@ -1,0 +1,61 @@
+use mathlib.Core.Path.{_∙_, sym}
+use Prim.Native.Nat.{_-_, _≤_}
+use native.Mathlib.Nat.{le-refl}
+use native.Mathlib.Omega.{arith}
+use borrow.Author.Needs.{needs}
+use Rattle.model.specs.Tests.{NoneIn}
+use Rattle.model.proofs.Firsts.{firstIn-end, firstIn-found, none-empty, none-more}
+use Rattle.search.specs.Searches.{isOpen}
+use Rattle.search.proofs.open_column.Statement.{statement}
+use Rattle.search.proofs.open_column.Tie as tie
+
+abbrev Inv-loop : tie.InvT-loop
+Inv-loop dom c₀ c = (c ≤ 16) × NoneIn (isOpen dom) 0 c
+
+abbrev μ-loop : tie.MeasureT-loop
+μ-loop dom c₀ c = 16 - c
+
+loop-holds : tie.Need-loop-holds Inv-loop μ-loop
+loop-holds c = (omega arith, none-empty (le-refl 0))
+
+mul-two-or-more : tie.Need-mul-two-or-more Inv-loop μ-loop
+mul-two-or-more c = search needs
+
+element-copy-out-two-or-more : tie.Need-element-copy-out-two-or-more Inv-loop μ-loop
+element-copy-out-two-or-more c = search needs
+
+two-or-more-requires : tie.Need-two-or-more-requires Inv-loop μ-loop
+two-or-more-requires c κs = search needs
+
+returns : tie.Need-returns Inv-loop μ-loop
+unfolding isOpen
+returns c = firstIn-found (omega arith) (c .before .before .before .loop-test .taken) (c .before .before .before .before .loop .inv .1) (sym (c .before .two-or-more .ensures) ∙ c .if1 .taken)
+
+add-c : tie.Need-add-c Inv-loop μ-loop
+add-c c = search needs
+
+loop-less : tie.Need-loop-less Inv-loop μ-loop
+loop-less c = search needs
+
+loop-again : tie.Need-loop-again Inv-loop μ-loop
+unfolding isOpen
+loop-again c = (omega (arith, c .before .before .before .loop-test .taken), none-more (c .before .before .before .before .loop .inv .1) (sym (c .before .two-or-more .ensures) ∙ c .if1 .left))
+
+returns-2 : tie.Need-returns-2 Inv-loop μ-loop
+returns-2 c = firstIn-end (omega arith) (c .before .loop .inv .0) (omega (arith, c .loop-test .left)) (c .before .loop .inv .1)
+
+pub open-column-spec : {M : Type 1} → statement M
+open-column-spec =
+    tie.close
+    (tie.spec
+    Inv-loop
+    μ-loop
+    loop-holds
+    mul-two-or-more
+    element-copy-out-two-or-more
+    two-or-more-requires
+    returns
+    add-c
+    loop-less
+    loop-again
+    returns-2)

@@ -1,0 +1,159 @@
+// The search of a finish: the first solution, lowest by column 0, then column 1, and so on. Picking a column and trying its values take
+// turns until every column is single.
+//
+//     pick_column    the lowest column with two values or more: its values from the lowest on, each tried
+//     try_value      the column set to one value, the state propagated; where a store is left, the next column is picked
+//
+// Each state of the search is that of a trail: setting column c to v is a narrow of c to v alone. So what `try_value` propagates is what a
+// narrow would, and the caller's arrays stay as they are.
+use engine::state::*;
+ghost use mathlib.Core.Path.{_≡_};
+ghost use mathlib.Core.Bool.{true, false};
+ghost use Prim.Native.Nat.{_<_};
+ghost use lib.Count.{trailingZeros};
+ghost use lib.ListN.{replicate};
+ghost use Rattle.model.specs.Tests.{FirstIn};
+ghost use Rattle.model.specs.Masks.{bit, Cleared};
+ghost use Rattle.book.specs.Verdicts.{Accepted};
+ghost use Rattle.engine.specs.Layouts.{LayoutOf};
+ghost use Rattle.engine.specs.Sessions.{SomeState};
+ghost use Rattle.search.specs.Searches.{FoundIs, solutionIn, solutionAfter, Finishes, isOpen, FilledState, OpenValue};
+
+// What a search finds: whether there is a solution, and its values, one bit for each column.
+pub struct Found {
+    pub ok: bool,
+    pub dom: [u32; 16],
+}
+
+// No solution.
+fn nothing() -> Found
+    ensures { λ r. ⌜ (r .ok ≡ false) × (r .dom ≡ replicate 16 0) ⌝ }
+{
+    Found {
+        ok: false,
+        dom: [0u32; 16],
+    }
+}
+
+// The lowest column with two values or more, or 16.
+fn open_column(dom: &[u32; 16]) -> usize
+    ensures { λ r. ⌜ FirstIn (isOpen (now (dom .entry))) 0 16 r ⌝ }
+{
+    let mut c: usize = 0;
+    while c < 16 {
+        if words::bits::two_or_more(dom[c]) {
+            return c;
+        }
+        c += 1;
+    }
+    c
+}
+
+// The lowest value of a domain.
+fn lowest_value(d: u32) -> u32
+    requires { ⌜ 0 < d ⌝ }
+    ensures { λ r. ⌜ (r ≡ trailingZeros 32 d) × (bit r d ≡ true) ⌝ }
+{
+    u32::trailing_zeros(d)
+}
+
+// The other values.
+fn other_values(d: u32) -> u32
+    requires { ⌜ 0 < d ⌝ }
+    ensures { λ r. ⌜ Cleared d r (trailingZeros 32 d) × (r < d) ⌝ }
+{
+    d & (d - 1)
+}
+
+// The first solution in a state that is not failed.
+fn pick_column(
+    book: &[u8],
+    first: &[usize; 8],
+    mask: &[u32; 8],
+    dom: &[u32; 16],
+    live: &[u64; 64],
+    index: &[u8; 64],
+    limit: &[u8; 8],
+) -> Found
+    requires { ⌜ Accepted (now book) × LayoutOf (now book) (now first) (now mask) × FilledState (now book) (now dom) (now live) (now index) (now limit) ⌝ }
+    ensures { λ r. ⌜ FoundIs (now (book .entry)) (solutionIn (now (book .entry)) (now (dom .entry))) r ⌝ }
+{
+    let c = open_column(dom);
+    if c == 16 {
+        let d = *dom;
+        return Found { ok: true, dom: d };
+    }
+    let mut rest = dom[c];
+    while rest != 0 {
+        let f = try_value(
+            book,
+            first,
+            mask,
+            dom,
+            live,
+            index,
+            limit,
+            c,
+            lowest_value(rest),
+        );
+        if f.ok {
+            return f;
+        }
+        rest = other_values(rest);
+    }
+    nothing()
+}
+
+// The first solution with the value v in column c, which has two values or more.
+fn try_value(
+    book: &[u8],
+    first: &[usize; 8],
+    mask: &[u32; 8],
+    dom: &[u32; 16],
+    live: &[u64; 64],
+    index: &[u8; 64],
+    limit: &[u8; 8],
+    c: usize,
+    v: u32,
+) -> Found
+    requires { ⌜ Accepted (now book) × LayoutOf (now book) (now first) (now mask) × FilledState (now book) (now dom) (now live) (now index) (now limit) × OpenValue (now book) (now dom) c v ⌝ }
+    ensures { λ r. ⌜ FoundIs (now (book .entry)) (solutionAfter (now (book .entry)) (now (dom .entry)) c v) r ⌝ }
+{
+    let column = 1u32 << c;
+    let waiting = engine::worklist::waiting_for(mask, column);
+    let mut d = *dom;
+    let mut l = *live;
+    let mut x = *index;
+    let mut n = *limit;
+    d[c] = words::bits::only(v);
+    if engine::propagate::propagate(
+        book,
+        first,
+        mask,
+        waiting,
+        column,
+        false,
+        &mut d,
+        &mut l,
+        &mut x,
+        &mut n,
+    ) {
+        return pick_column(book, first, mask, &d, &l, &x, &n);
+    }
+    nothing()
+}
+
+// A finish of the state of a trail.
+pub fn finish(book: &[u8], first: &[usize; 8], mask: &[u32; 8], st: State) -> Found
+    requires { ⌜ Accepted (now book) × LayoutOf (now book) (now first) (now mask) × SomeState (now book) st ⌝ }
+    ensures { λ r. ⌜ Finishes (now (book .entry)) st r ⌝ }
+{
+    let dom = st.dom;
+    if dom[0] == 0 {
+        return nothing();
+    }
+    let live = st.live;
+    let index = st.index;
+    let limit = st.limit;
+    pick_column(book, first, mask, &dom, &live, &index, &limit)
+}

@@ -1,0 +1,4 @@
+pub mod Overs
+pub mod Counts
+pub mod Statuses
+pub mod States

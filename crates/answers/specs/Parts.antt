@@ -1,0 +1,35 @@
+-- What an answer says of the domains D of the book b, and its part of the answer space.
+--
+--     0          72         144             72 i       72 i + 72
+--     | answer 0 | answer 1 | ..            | answer i | untouched
+use mathlib.Core.Bool.{Bool, cond}
+use mathlib.Core.List.{List, _++_}
+use Prim.Native.Nat.{_+_, ℕ}
+use lib.ListN.{drop, length, take}
+use Rattle.model.specs.Answers.{Answer, doneOf, statusOf}
+use Rattle.book.specs.Decoding.{bookOf}
+use Rattle.engine.specs.Propagation.{storeIn}
+
+-- "answer i is written into bytes 72 × i to 72 × i + 71": xs with ys written over it from byte a on
+unfoldable pub over : List ℕ → ℕ → List ℕ → List ℕ
+over xs a ys = take a xs ++ (ys ++ drop (a + length ys) xs)
+
+-- "byte 0 the refusal or 0; byte 1 status; byte 2 depth; byte 3 zero, or for an accepted finish 1 found, 2 none; byte 4 done"
+unfoldable pub answerOf : List ℕ → List ℕ → ℕ → ℕ → ℕ → List ℕ → Answer
+answerOf b D refused depth outcome shown =
+    record {
+      refused = refused;
+      status = statusOf (bookOf b) (storeIn b D);
+      depth = depth;
+      outcome = outcome;
+      done = doneOf (bookOf b) (storeIn b D);
+      shown = shown;
+    }
+
+-- any order but an accepted finish: the state is shown
+abbrev pub stateAnswer : List ℕ → List ℕ → ℕ → ℕ → Answer
+stateAnswer b D refused depth = answerOf b D refused depth 0 (storeIn b D)
+
+-- "An accepted finish puts the full set there, one bit for each column, or zeros for none": these masks, and the rest is the state's
+abbrev pub finishAnswer : List ℕ → List ℕ → ℕ → Bool → List ℕ → Answer
+finishAnswer b D depth found shown = answerOf b D 0 depth (cond found 1 2) shown

@@ -86,7 +86,7 @@ pick-column-returns : (t : ℕ) → pick-column-lts.Need-returns (picks t) (pick
 pick-column-returns t c =
     let p = c .before .before .before .before .pre in
     let o = c .before .before .open-column .ensures in
-    found-assigned _ (p .1 .0) (p .1 .2) _ o (c .before .if1 .taken) refl refl
+    found-assigned _ (p .1 .0) (p .1 .2) _ o (omega (arith, c .before .if1 .taken)) refl refl
 
 pick-column-mul-rest : (t : ℕ) → pick-column-lts.Need-mul-rest (picks t) (pick-column-at t) pick-column.Post pick-column-Inv-loop pick-column-μ-loop
 pick-column-mul-rest t c = search needs

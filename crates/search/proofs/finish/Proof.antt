@@ -1,3 +1,4 @@
+use native.Mathlib.Omega.{arith}
 use borrow.Author.Needs.{needs}
 use Rattle.search.proofs.Finishing.{finish-failed, finish-filled, finish-found}
 use Rattle.search.proofs.finish.Statement.{statement}
@@ -11,7 +12,7 @@ nothing-requires c κs = search needs
 
 returns : tie.Need-returns
 returns c =
-    finish-failed _ (c .before .before .before .before .pre .0) _ _ (c .nothing .ensures) (c .before .if1 .taken)
+    finish-failed _ (c .before .before .before .before .pre .0) _ _ (c .nothing .ensures) (omega (arith, c .before .if1 .taken))
 
 pick-column-requires : tie.Need-pick-column-requires
 pick-column-requires c κs =

@@ -1,6 +1,5 @@
 use mathlib.Core.Path.{_∙_, sym}
 use Prim.Native.Nat.{_-_, _≤_}
-use native.Mathlib.Nat.{le-refl}
 use native.Mathlib.Omega.{arith}
 use borrow.Author.Needs.{needs}
 use Rattle.model.specs.Tests.{NoneIn}
@@ -16,7 +15,7 @@ abbrev μ-loop : tie.MeasureT-loop
 μ-loop dom c₀ c = 16 - c
 
 loop-holds : tie.Need-loop-holds Inv-loop μ-loop
-loop-holds c = (omega arith, none-empty (le-refl 0))
+loop-holds c = (omega arith, none-empty (omega arith))
 
 mul-two-or-more : tie.Need-mul-two-or-more Inv-loop μ-loop
 mul-two-or-more c = search needs

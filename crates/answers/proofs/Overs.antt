@@ -1,10 +1,10 @@
 -- Laws of bytes written over others, and of the bytes of an answer. Assumes nothing.
 use mathlib.Core.Path.{_∙_, _≡_, ap, ap₂, refl, sym}
 use mathlib.Core.List.{List, [], _++_, _∷_, append-assoc, append-nil}
-use Prim.Native.Nat.{_%_, _*_, _+_, _-_, _/_, _<_, _≤_, suc, zero, ℕ}
+use Prim.Native.Nat.{_%_, _*_, _+_, _/_, _<_, _≤_, suc, zero, ℕ}
 use native.Mathlib.Numerals.{add-one}
 use native.Mathlib.Omega.{arith}
-use lib.ListN.{drop, drop-of-length-le, getD, length, length-append, length-drop, length-take, set, take, take-append-drop}
+use lib.ListN.{drop, drop-of-length-le, getD, length, length-append, length-drop, set, take, take-append-drop}
 use lib.Seq.{drop-append-add, drop-drop, length-take-le, sets, sets-eq, take-at}
 use Rattle.model.specs.Answers.{Answer, answerBytes, domainBytes, wordBytes}
 use Rattle.answers.specs.Parts.{over}
@@ -42,9 +42,6 @@ over-over xs a m ys zs e h =
     ∙ append-assoc (take a xs) ys (zs ++ drop (a + length (ys ++ zs)) xs)
     ∙ ap (λ (l : List ℕ). take a xs ++ l) (sym (append-assoc ys zs (drop (a + length (ys ++ zs)) xs)))
   where
-    first : List ℕ
-    first = take a xs ++ ys
-
     size : length (take a xs ++ ys) ≡ m
     size = length-append (take a xs) ys ∙ rw (length-take-le a xs (omega arith)) (sym e)
 
@@ -68,10 +65,19 @@ unfolding over
 over-all xs ys e =
     let h : length xs ≤ 0 + length ys = omega arith in rw (drop-of-length-le xs h) (append-nil ys)
 
--- a part that was lent and is back
-pub part-over : (xs : List ℕ) (a k : ℕ) (ys : List ℕ) → length ys ≡ k → take a xs ++ (ys ++ drop k (drop a xs)) ≡ over xs a ys
+-- to drop k is to drop as many as the first k are
+drop-taken : (k : ℕ) (l : List ℕ) → drop k l ≡ drop (length (take k l)) l
+drop-taken zero l = refl
+drop-taken (suc k) [] = refl
+drop-taken (suc k) (x ∷ l) = drop-taken k l
+
+-- a part that was lent is back, as long as it was
+pub part-over : (xs : List ℕ) (a k : ℕ) (ys : List ℕ) → length ys ≡ length (take k (drop a xs))
+    → take a xs ++ (ys ++ drop k (drop a xs)) ≡ over xs a ys
 unfolding over
-part-over xs a k ys e = ap (λ (l : List ℕ). take a xs ++ (ys ++ l)) (drop-drop k a xs ∙ ap (λ (n : ℕ). drop (a + n) xs) (sym e))
+part-over xs a k ys e =
+    ap (λ (l : List ℕ). take a xs ++ (ys ++ l))
+    (drop-taken k (drop a xs) ∙ drop-drop (length (take k (drop a xs))) a xs ∙ ap (λ (n : ℕ). drop (a + n) xs) (sym e))
 
 -- ws stands before the place a: it stays, and ys stands after it
 pub over-next : (xs ws ys space : List ℕ) (a m : ℕ) → length ws ≡ a → m ≡ a + length ys → xs ≡ ws ++ drop a space
@@ -132,9 +138,6 @@ pub answer-next : {xs : List ℕ} (ws space ys : List ℕ) (i : ℕ) → xs ≡ 
     → over xs (72 * i) ys ≡ (ws ++ ys) ++ drop (72 * (i + 1)) space
 answer-next {xs} ws space ys i e s l = over-next xs ws ys space (72 * i) (72 * (i + 1)) s (omega arith) e
 
--- the part lent for answer i is back, with an answer in it
-pub placed : (xs : List ℕ) (i : ℕ) {ys : List ℕ} (x : Answer) → ys ≡ answerBytes x
-    → take (72 * i) xs ++ (ys ++ drop (72 * i + 72 - 72 * i) (drop (72 * i) xs)) ≡ over xs (72 * i) (answerBytes x)
-placed xs i x e =
-    let k : 72 * i + 72 - 72 * i ≡ 72 = omega arith in
-    rw (e, k) (part-over xs (72 * i) 72 (answerBytes x) (answer-length x))
+-- then they are one more
+pub next-length : (ws : List ℕ) (a : Answer) (i : ℕ) → length ws ≡ 72 * i → length (ws ++ answerBytes a) ≡ 72 * (i + 1)
+next-length ws a i e = omega (arith, length-append ws (answerBytes a), answer-length a)

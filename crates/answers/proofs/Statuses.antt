@@ -1,4 +1,4 @@
--- Status and done byte of settled domains, from masks; the domains of a state. Assumes nothing.
+-- Status and done byte of settled domains, from masks. Assumes nothing.
 use mathlib.Core.Path.{_∙_, _≡_, ap, refl, sym}
 use mathlib.Core.Bool.{Bool, cond, false, false≢true, not, true}
 use mathlib.Core.Logic.{_⊎_, inl, inr}
@@ -12,7 +12,6 @@ use borrow.Author.Tests.{eq-eqb, eqb-true, ltb-false, ne-eqb}
 use Rattle.model.specs.Answers.{Answer, answerBytes, assigned, doneOf, statusOf, subsumed, subsumedBits}
 use Rattle.model.specs.Books.{Sheet, columnCount}
 use Rattle.model.specs.Masks.{bit, maskOf, size}
-use Rattle.model.specs.Orders.{depth}
 use Rattle.model.specs.Stores.{allFilled, has}
 use Rattle.model.specs.Tests.{allBelow, count, oneIf, tab}
 use Rattle.model.proofs.Masks.{bit-and, bit-below, bit-maskOf, bit-of-zero, mask-ext, maskOf-lt, maskOf-same, size-zero, some-bit}

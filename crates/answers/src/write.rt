@@ -3,12 +3,9 @@ use crate::put::put_answer;
 use crate::status::*;
 ghost use mathlib.Core.Path.{_≡_};
 ghost use mathlib.Core.Bool.{cond};
-ghost use Prim.Native.Nat.{_*_, _+_, _<_, _≤_};
-ghost use lib.ListN.{length};
+ghost use Prim.Native.Nat.{_*_, _+_, _<_};
 ghost use Rattle.model.specs.Answers.{answerBytes};
-ghost use Rattle.book.specs.Verdicts.{Accepted};
-ghost use Rattle.answers.specs.Parts.{answerOf, finishAnswer, over, stateAnswer};
-ghost use Rattle.answers.specs.Shows.{SheetMasks, Shows};
+ghost use Rattle.answers.specs.Parts.{Writable, answerOf, finishAnswer, over, stateAnswer};
 
 // Answer i: status and done byte of the domains `dom`, and the masks `shown`. Its 72 bytes are lent to the writer.
 fn write(
@@ -22,7 +19,7 @@ fn write(
     dom: &[u32; 16],
     shown: &[u32; 16],
 )
-    requires { ⌜ Accepted (now book) × SheetMasks (now book) (now mask) × Shows (now book) (now dom) × (i ≤ 256) × (72 * i + 72 ≤ length (now answers)) ⌝ }
+    requires { ⌜ Writable (now book) (now mask) (now dom) i (now answers) ⌝ }
     ensures { λ r. ⌜ now (answers .exit) ≡ over (now (answers .entry)) (72 * i) (answerBytes (answerOf (now (book .entry)) (now (dom .entry)) refused depth outcome (now (shown .entry)))) ⌝ }
 {
     let opens = open_columns(dom);
@@ -52,7 +49,7 @@ pub fn write_state(
     depth: usize,
     dom: &[u32; 16],
 )
-    requires { ⌜ Accepted (now book) × SheetMasks (now book) (now mask) × Shows (now book) (now dom) × (i ≤ 256) × (72 * i + 72 ≤ length (now answers)) × (refused < 256) × (depth < 256) ⌝ }
+    requires { ⌜ Writable (now book) (now mask) (now dom) i (now answers) × (refused < 256) × (depth < 256) ⌝ }
     ensures { λ r. ⌜ now (answers .exit) ≡ over (now (answers .entry)) (72 * i) (answerBytes (stateAnswer (now (book .entry)) (now (dom .entry)) refused depth)) ⌝ }
 {
     write(
@@ -89,7 +86,7 @@ pub fn write_finish(
     found: bool,
     shown: &[u32; 16],
 )
-    requires { ⌜ Accepted (now book) × SheetMasks (now book) (now mask) × Shows (now book) (now dom) × (i ≤ 256) × (72 * i + 72 ≤ length (now answers)) × (depth < 256) ⌝ }
+    requires { ⌜ Writable (now book) (now mask) (now dom) i (now answers) × (depth < 256) ⌝ }
     ensures { λ r. ⌜ now (answers .exit) ≡ over (now (answers .entry)) (72 * i) (answerBytes (finishAnswer (now (book .entry)) (now (dom .entry)) depth found (now (shown .entry)))) ⌝ }
 {
     write(

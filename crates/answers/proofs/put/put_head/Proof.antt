@@ -34,7 +34,8 @@ same-length : tie.Need-same-length
 same-length c = search needs
 
 returns : tie.Need-returns
-returns c = stored (c .args .out .now) 0 (c .args .refused ∷ c .args .status ∷ c .args .depth ∷ c .args .outcome ∷ c .args .done ∷ 0 ∷ 0 ∷ 0 ∷ []) (omega (arith, c .pre))
+returns c =
+    cc (stored (c .args .out .now) 0 (c .args .refused ∷ c .args .status ∷ c .args .depth ∷ c .args .outcome ∷ c .args .done ∷ 0 ∷ 0 ∷ 0 ∷ []) (omega (arith, c .pre)))
 
 pub put-head-spec : {M : Type 1} → statement M
 put-head-spec =

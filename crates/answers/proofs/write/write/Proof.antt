@@ -4,7 +4,7 @@ use lib.ListN.{length-drop, length-take}
 use borrow.Author.Needs.{needs}
 use Rattle.model.specs.Answers.{answerBytes}
 use Rattle.engine.proofs.Worklists.{head-length}
-use Rattle.answers.proofs.Overs.{placed}
+use Rattle.answers.proofs.Overs.{part-over}
 use Rattle.answers.proofs.Statuses.{answer-is, few-sheets}
 use Rattle.answers.proofs.write.write.Statement.{statement}
 use Rattle.answers.proofs.write.write.Tie as tie
@@ -19,7 +19,7 @@ status-requires : tie.Need-status-requires
 status-requires c κs = search needs
 
 done-requires : tie.Need-done-requires
-done-requires c κs = let s = c .before .before .before .before .before in (head-length _ (s .pre .0), few-sheets _ (s .pre .0))
+done-requires c κs = let s = c .before .before .before .before .before in (head-length _ (s .pre .accepted), few-sheets _ (s .pre .accepted))
 
 mul-from : tie.Need-mul-from
 mul-from c = search needs
@@ -47,8 +47,9 @@ returns c =
     let s = c .before .before .before .before .before .before .before .before .before .before in
     let e =
     c .before .before .put-answer .ensures
-    ∙ ap answerBytes (answer-is (s .pre .0) (s .pre .2) (s .pre .1) _ _ _ _ (c .before .before .before .before .before .before .before .open-columns .ensures) (search needs) (search needs)) in
-    placed _ (s .args .i) _ e
+    ∙ ap answerBytes (answer-is (s .pre .accepted) (s .pre .shows) (s .pre .masks) _ _ _ _ (c .before .before .before .before .before .before .before .open-columns .ensures) (search needs) (search needs)) in
+    let h = c .before .before .put-answer .kept .0 in
+    rw part-over (cc)
 
 pub write-spec : {M : Type 1} → statement M
 write-spec =

@@ -19,7 +19,7 @@ same-length : tie.Need-same-length
 same-length c = search needs
 
 returns : tie.Need-returns
-returns c = let s = c .before .before .before .before .before .before in c .before .before .write .ensures ∙ ap (over _ (72 * s .args .i)) (shown-same (s .pre .2) _ _ _)
+returns c = let s = c .before .before .before .before .before .before in c .before .before .write .ensures ∙ ap (over _ (72 * s .args .i)) (shown-same (s .pre .0 .shows) _ _ _)
 
 pub write-state-spec : {M : Type 1} → statement M
 write-state-spec = tie.close (tie.spec cast-write cast-write-2 write-requires same-length returns)

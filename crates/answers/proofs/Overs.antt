@@ -25,6 +25,18 @@ word-stored xs n x h e f g k =
     let three : n + 3 ≡ suc (suc (suc n)) = omega arith in
     rw (e, f, g, k, one, two, three) (stored xs n (wordBytes x) h)
 
+-- the eight bytes before the masks
+pub head-stored : (xs : List ℕ) {refused status depth outcome done p q r t u : ℕ} → 8 ≤ length xs
+    → p ≡ refused → q ≡ status → r ≡ depth → t ≡ outcome → u ≡ done
+    → set (set (set (set (set (set (set (set xs 0 p) 1 q) 2 r) 3 t) 4 u) 5 0) 6 0) 7 0
+    ≡ over xs 0 (refused ∷ status ∷ depth ∷ outcome ∷ done ∷ 0 ∷ 0 ∷ 0 ∷ [])
+head-stored xs {refused} {status} {depth} {outcome} {done} h e f g k l =
+    rw (e, f, g, k, l) (stored xs 0 (refused ∷ status ∷ depth ∷ outcome ∷ done ∷ 0 ∷ 0 ∷ 0 ∷ []) (omega arith))
+
+-- the same bytes at the same place
+pub over-same : (xs : List ℕ) {a b : ℕ} {ys zs : List ℕ} → a ≡ b → ys ≡ zs → over xs a ys ≡ over xs b zs
+over-same xs p q = ap₂ (over xs) p q
+
 pub over-length : (xs : List ℕ) (a : ℕ) (ys : List ℕ) → a + length ys ≤ length xs → length (over xs a ys) ≡ length xs
 unfolding over
 over-length xs a ys h = simp (length-append, length-take-le a xs (omega arith), length-drop) (omega arith)

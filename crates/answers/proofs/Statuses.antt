@@ -183,6 +183,15 @@ module _ (b : List ℕ) (acc : Accepted b) (D : List ℕ) (h : Shows b D) where
         go (inl f) = rw (all-filled f, first-filled f) done-bits
         go (inr f) = rw (none-filled f, eq-eqb (getD D 0 0) 0 (f 0)) refl
 
+-- a sheet as a bit, from a mask m of its open columns
+pub many-open : {m : ℕ} (columns opens s : ℕ) → ltb 1 (size m) ≡ true → m ≡ bitAnd columns opens → 0 ≡ cond (fewOpen columns opens) (2 ^ s) 0
+unfolding fewOpen
+many-open columns opens s e f = sym (rw (← f, e) refl)
+
+pub few-open : {m : ℕ} (columns opens s : ℕ) → ltb 1 (size m) ≡ false → m ≡ bitAnd columns opens → 2 ^ s ≡ cond (fewOpen columns opens) (2 ^ s) 0
+unfolding fewOpen
+few-open columns opens s e f = sym (rw (← f, e) refl)
+
 -- no sheet of a failed state is done
 pub done-failed : (S : ℕ) (M : List ℕ) (first opens : ℕ) → first ≡ 0 → doneFrom S M first opens ≡ 0
 unfolding doneFrom

@@ -1,8 +1,7 @@
-use mathlib.Core.List.{[], _∷_}
 use native.Mathlib.Omega.{arith}
 use lib.ListN.{length-set}
 use borrow.Author.Needs.{needs}
-use Rattle.answers.proofs.Overs.{stored}
+use Rattle.answers.proofs.Overs.{head-stored}
 use Rattle.answers.proofs.put.put_head.Statement.{statement}
 use Rattle.answers.proofs.put.put_head.Tie as tie
 
@@ -35,7 +34,7 @@ same-length c = search needs
 
 returns : tie.Need-returns
 returns c =
-    cc (stored (c .args .out .now) 0 (c .args .refused ∷ c .args .status ∷ c .args .depth ∷ c .args .outcome ∷ c .args .done ∷ 0 ∷ 0 ∷ 0 ∷ []) (omega (arith, c .pre)))
+    head-stored (c .args .out .now) (omega (arith, c .pre)) (omega arith) (omega arith) (omega arith) (omega arith) (omega arith)
 
 pub put-head-spec : {M : Type 1} → statement M
 put-head-spec =

@@ -1,11 +1,8 @@
-use mathlib.Core.Path.{_∙_, _≡_, refl, sym}
-use mathlib.Core.Bool.{false, true}
-use lib.Bits.{bitAnd}
-use lib.Dec.{ltb}
+use mathlib.Core.Path.{_∙_, sym}
+use native.Mathlib.Omega.{arith}
 use borrow.Author.Needs.{needs}
-use Rattle.model.specs.Masks.{size}
 use Rattle.words.proofs.Walks.{shifted-one}
-use Rattle.answers.specs.Shows.{fewOpen}
+use Rattle.answers.proofs.Statuses.{few-open, many-open}
 use Rattle.answers.proofs.status.done_bit.Statement.{statement}
 use Rattle.answers.proofs.status.done_bit.Tie as tie
 
@@ -13,11 +10,9 @@ two-or-more-requires : tie.Need-two-or-more-requires
 two-or-more-requires c κs = search needs
 
 returns : tie.Need-returns
-unfolding fewOpen
 returns c =
     let s = c .before .before in
-    let e : ltb 1 (size (bitAnd (s .args .columns) (s .args .opens))) ≡ true = cc in
-    sym (rw e refl)
+    many-open (s .args .columns) (s .args .opens) (s .args .s) (sym (c .before .two-or-more .ensures) ∙ c .if1 .taken) (omega arith)
 
 cast-result : tie.Need-cast-result
 cast-result c = search needs
@@ -26,11 +21,10 @@ shl-result : tie.Need-shl-result
 shl-result c = search needs
 
 returns-2 : tie.Need-returns-2
-unfolding fewOpen
 returns-2 c =
     let s = c .before .before in
-    let e : ltb 1 (size (bitAnd (s .args .columns) (s .args .opens))) ≡ false = cc in
-    shifted-one 8 (s .args .s) (s .pre) ∙ sym (rw e refl)
+    shifted-one 8 (s .args .s) (s .pre)
+    ∙ few-open (s .args .columns) (s .args .opens) (s .args .s) (sym (c .before .two-or-more .ensures) ∙ c .if1 .left) (omega arith)
 
 pub done-bit-spec : {M : Type 1} → statement M
 done-bit-spec = tie.close (tie.spec two-or-more-requires returns cast-result shl-result returns-2)

@@ -4,7 +4,7 @@ use lib.ListN.{length-drop, length-take}
 use borrow.Author.Needs.{needs}
 use Rattle.model.specs.Answers.{answerBytes}
 use Rattle.engine.proofs.Worklists.{head-length}
-use Rattle.answers.proofs.Overs.{part-over}
+use Rattle.answers.proofs.Overs.{over-same, part-over}
 use Rattle.answers.proofs.Statuses.{answer-is, few-sheets}
 use Rattle.answers.proofs.write.write.Statement.{statement}
 use Rattle.answers.proofs.write.write.Tie as tie
@@ -49,7 +49,7 @@ returns c =
     c .before .before .put-answer .ensures
     ∙ ap answerBytes (answer-is (s .pre .accepted) (s .pre .shows) (s .pre .masks) _ _ _ _ (c .before .before .before .before .before .before .before .open-columns .ensures) (search needs) (search needs)) in
     let h = c .before .before .put-answer .kept .0 in
-    rw part-over (cc)
+    rw part-over (over-same _ (omega arith) e)
 
 pub write-spec : {M : Type 1} → statement M
 write-spec =

@@ -3,19 +3,18 @@
 use mathlib.Core.Path.{_∙_, _≡_, ap, refl, subst, sym}
 use mathlib.Core.Bool.{Bool, false, true}
 use mathlib.Core.Logic.{_↔_, _⊎_, inl, inr}
-use mathlib.Core.List.{List, [], _∷_}
+use mathlib.Core.List.{List, []}
 use Prim.Native.Nat.{_*_, _+_, _-_, _/_, _<_, _^_, _≤_, suc, zero, ℕ}
 use native.Mathlib.Numerals.{add-one}
 use native.Mathlib.Omega.{arith}
 use lib.Dec.{eqb, leb, ltb}
 use lib.ListN.{drop, getD, length}
 use lib.Seq.{getD-append-add, getD-drop, getD-take}
-use borrow.Author.Tests.{eqb-false, eqb-true, leb-false, leb-true, ltb-false, ne-eqb}
+use borrow.Author.Tests.{eqb-false, eqb-true, le-leb, le-ltb, leb-false, leb-true, lt-leb, lt-ltb, ltb-false, ne-eqb}
 use Rattle.model.specs.Answers.{Answer, acceptedCount, acceptedFrom, answer, answerBytes, answers, opening, showing}
 use Rattle.model.specs.Books.{Book, Fails, Stays, WellFormed, columnCount}
-use Rattle.model.specs.Choices.{first}
 use Rattle.model.specs.Demands.{ShowsFinish, ShowsState}
-use Rattle.model.specs.Masks.{bit, size}
+use Rattle.model.specs.Masks.{bit}
 use Rattle.model.specs.Orders.{Entry, allowed, byte, depth, isAccepted, kind, push, refusal, trail, trailFrom}
 use Rattle.model.specs.Stores.{has}
 use Rattle.model.specs.Tests.{count, oneIf, sum, tab}
@@ -25,36 +24,22 @@ use Rattle.model.proofs.Search.{getD-map}
 use Rattle.model.proofs.Tests.{below, either, getD-tab, getD-tab-out, length-tab, or-false-l, sum-last, sum-same}
 use Rattle.model.proofs.Trails.{accepted-snoc, domains-store, trail-snoc}
 use Rattle.book.specs.Decoding.{bookOf}
-use Rattle.book.specs.Verdicts.{Accepted, accepted, checkResult}
+use Rattle.book.specs.Verdicts.{checkResult}
 use Rattle.book.proofs.Decoded.{accepted-right, right-formed}
 use Rattle.engine.specs.Lists.{orderAt, ordersOf, ordersTo}
 use Rattle.engine.proofs.Lists.{orders-more, tab-last}
 use Rattle.runs.specs.Promises.{AcceptedRun, AcceptedRuns, AnyRun, AnyRuns, IsFinish, byteOf, domainOf, standing}
-use Rattle.runs.specs.Results.{runRefusal, runResult, runSpace, spaceNeeded, wrongList}
+use Rattle.runs.specs.Results.{RightInput, runRefusal, runResult, runSpace, spaceNeeded, wrongList}
 use Rattle.runs.specs.Spaces.{allBytes, written}
 use Rattle.runs.proofs.Reading.{answer-depth, domain-back, shown-small}
-use Rattle.runs.proofs.Runs.{answers-at, length-answers}
+use Rattle.runs.proofs.Runs.{accepted-few, answers-at, length-answers}
 use Rattle.runs.proofs.Spaces.{answer-part, length-all, length-written}
 
 pub right-list : (o : List ℕ) → wrongList o ≡ false → length o ≤ 2048
 unfolding wrongList
 right-list o e = ltb-false 2048 (length o) (or-false-l (ltb 2048 (length o)) _ e)
 
-one-most : (t : Bool) → oneIf t ≤ 1
-one-most true = omega arith
-one-most false = omega arith
-
-accepted-few : (b : Book) (L : List Entry) (os : List (List ℕ)) → acceptedFrom b L os ≤ length os
-unfolding acceptedFrom
-accepted-few b L [] = omega arith
-accepted-few b L (o ∷ os) = omega (arith, one-most (isAccepted b L o), accepted-few b (push b L o) os)
-
--- ---- what an accepted run tells of its input
-pub record RightInput (b o : List ℕ) (room : ℕ) : Type 0 where
-  pub book : Accepted b
-  pub list : wrongList o ≡ false
-  pub enough : spaceNeeded o ≤ room
-
+-- ---- the number and the space
 module _ (b o : List ℕ) (room : ℕ) where
   pub right-input : runRefusal b o room ≡ 0 → RightInput b o room
   unfolding runRefusal
@@ -66,6 +51,10 @@ module _ (b o : List ℕ) (room : ℕ) where
       go (inr p) (inl q) r = let z : 10 * 65536 + 0 ≡ 0 = rw (p, q) at e in absurd (omega arith)
       go (inr p) (inr q) (inl r) = let z : 11 * 65536 + spaceNeeded o ≡ 0 = rw (p, q, r) at e in absurd (omega arith)
       go (inr p) (inr q) (inr r) = record { book = leb-false 65536 (checkResult b) p; list = q; enough = ltb-false room (spaceNeeded o) r }
+
+  pub right-zero : RightInput b o room → runRefusal b o room ≡ 0
+  unfolding runRefusal
+  right-zero h = rw (lt-leb 65536 (checkResult b) (h .book), h .list, le-ltb room (spaceNeeded o) (h .enough)) refl
 
   -- a refusal is 65,536 or more
   pub refusal-large : (runRefusal b o room ≡ 0 → ⊥) → 65536 ≤ runRefusal b o room
@@ -113,6 +102,32 @@ module _ (b o space : List ℕ) where
           → (runRefusal b o (length space) ≡ 0) ⊎ (runRefusal b o (length space) ≡ 0 → ⊥)
       go (inl e) = inl (eqb-true _ 0 e)
       go (inr e) = inr (eqb-false _ 0 e)
+
+  -- ---- each refusal, as the code gives it
+  module _ {v : ℕ} (e : v ≡ checkResult b) where
+    -- the number is a refusal, so nothing is written
+    refuses-with : {r : ℕ} → runRefusal b o (length space) ≡ r → (r ≡ 0 → ⊥) → (r ≡ runResult b o (length space)) × (space ≡ runSpace b o space)
+    refuses-with {r} q n =
+        let z : runRefusal b o (length space) ≡ 0 → ⊥ = λ y. n (sym q ∙ y) in
+        (sym (result-refused b o (length space) z ∙ q), sym (space-refused z))
+
+    pub book-refused : 65536 ≤ v → (v ≡ runResult b o (length space)) × (space ≡ runSpace b o space)
+    unfolding runRefusal
+    book-refused l =
+        let k : 65536 ≤ checkResult b = omega arith in
+        refuses-with (rw (le-leb 65536 (checkResult b) k) (sym e)) (λ y. omega arith)
+
+    module _ (l : v < 65536) {w : Bool} (f : w ≡ wrongList o) where
+      fits : leb 65536 (checkResult b) ≡ false
+      fits = let k : checkResult b < 65536 = omega arith in lt-leb 65536 (checkResult b) k
+
+      pub list-refused : w ≡ true → (655360 ≡ runResult b o (length space)) × (space ≡ runSpace b o space)
+      unfolding runRefusal
+      list-refused t = refuses-with (rw (fits, ← f, t) refl) (λ y. omega arith)
+
+      pub space-short : w ≡ false → length space < spaceNeeded o → (720896 + spaceNeeded o ≡ runResult b o (length space)) × (space ≡ runSpace b o space)
+      unfolding runRefusal
+      space-short t s = refuses-with (rw (fits, ← f, t, lt-ltb (length space) (spaceNeeded o) s) refl) (λ y. omega arith)
 
   -- ---- demand 1, of any run
   any-run : AnyRun b o space

@@ -27,8 +27,8 @@ use Rattle.model.proofs.Solutions.{found-iff}
 use Rattle.model.proofs.Stores.{in-store}
 use Rattle.model.proofs.Tests.{and-l, below, either, getD-tab, getD-tab-out}
 use Rattle.model.proofs.Trails.{domains-store}
+use Rattle.answers.proofs.Overs.{domainBytes-length}
 use Rattle.runs.specs.Promises.{byteOf, domainOf}
-use Rattle.runs.proofs.Spaces.{length-domains}
 
 domain-byte : (D : List ℕ) (n c j : ℕ) → c < n → j < 4 → getD (domainBytes D n) (4 * c + j) 0 ≡ getD (wordBytes (getD D c 0)) j 0
 unfolding domainBytes
@@ -36,7 +36,7 @@ domain-byte D zero c j l m = absurd (omega arith)
 domain-byte D (suc n) c j l m = go (λ k. domain-byte D n c j k m) (below c n)
   where
     size : length (domainBytes D n) ≡ 4 * n
-    size = length-domains D n
+    size = domainBytes-length D n
 
     go : (c < n → getD (domainBytes D n) (4 * c + j) 0 ≡ getD (wordBytes (getD D c 0)) j 0)
         → (c < n) ⊎ (n ≤ c) → getD (domainBytes D n ++ wordBytes (getD D n 0)) (4 * c + j) 0 ≡ getD (wordBytes (getD D c 0)) j 0

@@ -1,33 +1,43 @@
 -- Laws of a list on its way, and of two whole lists. Assumes nothing.
 -- ---- how many, and the last
 use mathlib.Core.Path.{_∙_, _≡_, ap, refl, subst, subst⁻¹, sym}
-use mathlib.Core.Bool.{Bool, false, true}
+use mathlib.Core.Bool.{Bool, _||_, cond, false, true}
 use mathlib.Core.Logic.{_⊎_, inl, inr}
+use mathlib.Core.Option.{Option, none, some}
 use mathlib.Core.List.{List, [], _++_, _∷_}
-use Prim.Native.Nat.{_*_, _+_, _/_, _<_, _≤_, suc, zero, ℕ}
+use Prim.Native.Nat.{_*_, _+_, _-_, _/_, _<_, _≤_, suc, zero, ℕ}
 use native.Mathlib.Omega.{arith}
+use lib.Dec.{eqb, leb, ltb}
 use lib.ListN.{List·getD-append, getD, length}
 use lib.Seq.{getD-at}
-use borrow.Author.Tests.{eq-eqb, ne-eqb}
-use Rattle.model.specs.Answers.{Answer, acceptedCount, acceptedFrom, answer, answerBytes, answers, answersFrom, lastFrom, opening, showing}
-use Rattle.model.specs.Books.{Book}
+use borrow.Author.Tests.{eq-eqb, eqb-false, eqb-true, ne-eqb}
+use Rattle.model.specs.Answers.{Answer, acceptedCount, acceptedFrom, answer, answerBytes, answers, answersFrom, finishing, lastFrom, opening, outcomeOf, showing, solutionMasks}
+use Rattle.model.specs.Books.{Book, columnCount}
 use Rattle.model.specs.Demands.{Gives, HoldsDomains}
-use Rattle.model.specs.Orders.{Entry, depth, isAccepted, kind, push, refusal, trail, trailFrom}
+use Rattle.model.specs.Orders.{Entry, argument, before, depth, domains, isAccepted, kind, mask, nonzero, outside, push, refusal, trail, trailFrom}
+use Rattle.model.specs.Solutions.{firstSolution}
 use Rattle.model.specs.Tests.{oneIf, tab}
 use Rattle.model.proofs.Demands.{answer-finish, answer-other, claim1, gives-demand3}
-use Rattle.model.proofs.Refusals.{push-finish}
-use Rattle.model.proofs.Tests.{and-i, below, length-tab}
+use Rattle.model.proofs.Refusals.{push-finish, refusal-back, refusal-finish, refusal-mark, refusal-narrow, refusal-other}
+use Rattle.model.proofs.Tests.{and-i, below, either, getD-tab, length-tab}
 use Rattle.model.proofs.Trails.{accepted-snoc, answers-snoc, trail-snoc}
 use Rattle.book.specs.Decoding.{bookOf}
-use Rattle.book.specs.Verdicts.{refused}
-use Rattle.engine.specs.Holds.{Holds, Refuses, Stepped}
+use Rattle.book.specs.Head.{columnsOf}
+use Rattle.engine.specs.Holds.{Holds, Refuses, Stepped, noState}
 use Rattle.engine.specs.Lists.{orderAt, ordersOf, ordersTo}
+use Rattle.engine.specs.Sessions.{SomeState}
 use Rattle.engine.specs.declared.session.Session.{Session}
+use Rattle.engine.specs.declared.state.State.{State}
 use Rattle.engine.proofs.Lists.{orders-more, tab-last}
 use Rattle.engine.proofs.Steps.{step-refused}
+use Rattle.engine.proofs.Turns.{columns-count}
+use Rattle.search.specs.Searches.{Finishes, isFound}
+use Rattle.search.specs.declared.Found.{Found}
+use Rattle.answers.specs.Parts.{finishAnswer, over, stateAnswer}
+use Rattle.answers.proofs.States.{finish-answer, state-answer}
 use Rattle.runs.specs.Runs.{Compares, FinishesAt, RanTo, ShowsAt, current}
 use Rattle.runs.specs.Spaces.{Adds, allBytes, answerAt, written}
-use Rattle.runs.proofs.Spaces.{answer-part, length-written}
+use Rattle.runs.proofs.Spaces.{adds, answer-part, length-written, written-over}
 
 length-from : (b : Book) (L : List Entry) (os : List (List ℕ)) → length (answersFrom b L os) ≡ length os
 unfolding answersFrom
@@ -65,6 +75,93 @@ answers-at b o (suc n) i d l =
         let e : i ≡ n = omega arith in
         rw e (getD-at (answersFrom b [] (ordersTo o n)) (answer b (trail b (ordersTo o n)) (orderAt o n)) [] d n long)
 
+one-most : (t : Bool) → oneIf t ≤ 1
+one-most true = omega arith
+one-most false = omega arith
+
+pub accepted-few : (b : Book) (L : List Entry) (os : List (List ℕ)) → acceptedFrom b L os ≤ length os
+unfolding acceptedFrom
+accepted-few b L [] = omega arith
+accepted-few b L (o ∷ os) = omega (arith, one-most (isAccepted b L o), accepted-few b (push b L o) os)
+
+-- ---- what the writers ask for
+small-cond : (t : Bool) {x y : ℕ} → x < 256 → y < 256 → cond t x y < 256
+small-cond true l m = l
+small-cond false l m = m
+
+-- a refusal fits a byte
+refusal-small : (b : Book) (L : List Entry) (o : List ℕ) → refusal b L o < 256
+refusal-small b L o =
+    go (either (eqb (kind o) 1)) (either (eqb (kind o) 2)) (either (eqb (kind o) 3)) (either (eqb (kind o) 4))
+  where
+    go : (eqb (kind o) 1 ≡ true) ⊎ (eqb (kind o) 1 ≡ false) → (eqb (kind o) 2 ≡ true) ⊎ (eqb (kind o) 2 ≡ false)
+        → (eqb (kind o) 3 ≡ true) ⊎ (eqb (kind o) 3 ≡ false) → (eqb (kind o) 4 ≡ true) ⊎ (eqb (kind o) 4 ≡ false) → refusal b L o < 256
+    go (inl k) p q r =
+        rw (refusal-narrow b L o (eqb-true (kind o) 1 k))
+        (small-cond (nonzero 2 2 o) (omega arith) (small-cond (leb (columnCount b) (argument o)) (omega arith) (small-cond (outside b (argument o) (mask o)) (omega arith) (omega arith))))
+    go (inr k) (inl p) q r =
+        rw (refusal-mark b L o (eqb-true (kind o) 2 p)) (small-cond (nonzero 1 7 o) (omega arith) (small-cond (eqb (depth L) 16) (omega arith) (omega arith)))
+    go (inr k) (inr p) (inl q) r =
+        rw (refusal-back b L o (eqb-true (kind o) 3 q))
+        (small-cond (nonzero 2 6 o) (omega arith) (small-cond (eqb (argument o) 0 || ltb (depth L) (argument o)) (omega arith) (omega arith)))
+    go (inr k) (inr p) (inr q) (inl r) = rw (refusal-finish b L o (eqb-true (kind o) 4 r)) (small-cond (nonzero 1 7 o) (omega arith) (omega arith))
+    go (inr k) (inr p) (inr q) (inr r) =
+        rw (refusal-other b L o (eqb-false (kind o) 1 k) (eqb-false (kind o) 2 p) (eqb-false (kind o) 3 q) (eqb-false (kind o) 4 r)) (omega arith)
+
+pub refuses-small : {b : List ℕ} (x : List ℕ) {L : List Entry} {s : Session} {r : ℕ} → Holds b L s → Refuses b (s .depth) x r → r < 256
+refuses-small {b} x {L} {s} {r} h f = rw (f L (h .deep)) (refusal-small (bookOf b) L x)
+
+pub depth-small : {b : List ℕ} {L : List Entry} {s : Session} → Holds b L s → s .depth ≤ 16
+depth-small h = omega (arith, h .few, h .deep)
+
+-- what was saved at a mark that stands
+pub saved-state : {b : List ℕ} {L : List Entry} {s : Session} (m : ℕ) → Holds b L s → 1 ≤ m → m ≤ s .depth → SomeState b (getD (s .saved) (m - 1) noState)
+saved-state {b} {L} {s} m h p q = record { stands = before (suc (m - 1)) L; is = h .marked (m - 1) (omega (arith, h .deep)) }
+
+-- the mark of an accepted back, as the code has it
+pub back-wide : {m a d : ℕ} → m ≡ a → (1 ≤ a) × (a ≤ d) × (d ≤ 16) → (1 ≤ m) × (m ≤ d) × (d ≤ 16)
+back-wide e q = (omega (arith, q .0), omega (arith, q .1), q .2)
+
+-- an accepted order that is no narrow, no mark and no back is a finish
+pub only-finish : {b : List ℕ} (x : List ℕ) {L : List Entry} {s : Session} {r : ℕ} → Holds b L s → Refuses b (s .depth) x r → r ≡ 0
+    → (kind x ≡ 1 → ⊥) → (kind x ≡ 2 → ⊥) → (kind x ≡ 3 → ⊥) → kind x ≡ 4
+only-finish {b} x {L} {s} {r} h f z p q u = go (either (eqb (kind x) 4))
+  where
+    go : (eqb (kind x) 4 ≡ true) ⊎ (eqb (kind x) 4 ≡ false) → kind x ≡ 4
+    go (inl e) = eqb-true (kind x) 4 e
+    go (inr e) =
+        let y : r ≡ 20 = f L (h .deep) ∙ refusal-other (bookOf b) L x p q u (eqb-false (kind x) 4 e) in
+        absurd (omega arith)
+
+-- ---- one answer
+module _ {b : List ℕ} {st : State} (d : ℕ) (i : ℕ) (space : List ℕ) where
+  pub shows-at : (r : ℕ) {space′ : List ℕ} → space′ ≡ over space (72 * i) (answerBytes (stateAnswer b (st .dom) r d)) → ShowsAt b st d r i space space′
+  shows-at r {space′} e L h q =
+      rw e
+      (subst (λ (a : Answer). Adds i (showing (bookOf b) L r) space (over space (72 * i) (answerBytes a))) (sym (state-answer h r q))
+      (adds i (showing (bookOf b) L r) space))
+
+  pub finishes-at : {f : Found} {space′ : List ℕ} → Finishes b st f → space′ ≡ over space (72 * i) (answerBytes (finishAnswer b (st .dom) d (f .ok) (f .dom)))
+      → FinishesAt b st d i space space′
+  finishes-at {f} {space′} g e L h q =
+      let o = firstSolution (bookOf b) (domains (bookOf b) L) in
+      rw (e, finish-answer h (f .ok) (f .dom) q (ap (λ (t : Bool). cond t 1 2) (g L h .ok) ∙ outcome o) (shown o (g L h .shown)))
+      (adds i (finishing (bookOf b) L) space)
+    where
+      outcome : (o : Option (List ℕ)) → cond (isFound o) 1 2 ≡ outcomeOf o
+      outcome none = refl
+      outcome (some x) = refl
+
+      shown : (o : Option (List ℕ)) → f .dom ≡ tab 16 (λ c. getD (solutionMasks (columnsOf b) o) c 0)
+          → (c : ℕ) → c < 16 → getD (f .dom) c 0 ≡ getD (solutionMasks (columnCount (bookOf b)) o) c 0
+      shown o y c l =
+          rw (y, columns-count b) (getD-tab 0 16 (λ c. getD (solutionMasks (columnsOf b) o) c 0) c l)
+
+pub opened-at : {b : List ℕ} {s : Session} (space : List ℕ) {space′ : List ℕ} → Holds b [] s → ShowsAt b (s .now) 0 0 0 space space′
+    → Adds 0 (opening (bookOf b)) space space′
+unfolding depth
+opened-at space h w = w [] (h .current) refl
+
 -- ---- from the opening on
 module _ (b o old : List ℕ) where
   abbrev bk : Book
@@ -76,6 +173,9 @@ module _ (b o old : List ℕ) where
   pub ran-none : {s : Session} {space : List ℕ} → 72 ≤ length old → Holds b [] s → Adds 0 (opening bk) old space → RanTo b o old 0 s 0 space
   unfolding tab trailFrom acceptedFrom answersFrom allBytes
   ran-none l h w = record { holds = h; counts = refl; wrote = w [] old refl l refl }
+
+  pub ran-few : {n k : ℕ} {s : Session} {space : List ℕ} → RanTo b o old n s k space → k ≤ n
+  ran-few {n} {k} {s} {space} h = omega (arith, h .counts, accepted-few bk [] (ordersTo o n), length-tab n (orderAt o))
 
   pub ran-room : {n k : ℕ} {s : Session} {space : List ℕ} → RanTo b o old n s k space → 72 * n + 72 ≤ length old → length space ≡ length old
   ran-room {n} {k} {s} {space} h l =
@@ -129,6 +229,24 @@ module _ (b o old : List ℕ) where
           (w (T n) (h .holds .current) (h .holds .deep))
 
   -- ---- whole lists
+  -- the space after the opening stands for the one before it
+  pub opened-ran : {s : Session} {space : List ℕ} → 72 ≤ length old → Holds b [] s → Adds 0 (opening bk) old space → RanTo b o space 0 s 0 space
+  unfolding tab trailFrom acceptedFrom answersFrom
+  opened-ran {s} {space} l h w =
+      let e = ran-none l h w .wrote in
+      record { holds = h; counts = refl; wrote = e ∙ sym (written-over (opening bk ∷ []) (opening bk ∷ []) old e (omega arith)) }
+
+  pub opened-long : {s : Session} {space : List ℕ} → 72 ≤ length old → Holds b [] s → Adds 0 (opening bk) old space → length space ≡ length old
+  opened-long {s} {space} l h w = ran-room (ran-none l h w) (omega arith)
+
+  pub ran-from : {s t : Session} {n k : ℕ} {mid space : List ℕ} → 72 ≤ length old → Holds b [] s → Adds 0 (opening bk) old mid → RanTo b o mid n t k space → RanTo b o old n t k space
+  unfolding tab trailFrom acceptedFrom answersFrom
+  ran-from {s} {t} {n} {k} {mid} {space} l h w g = record {
+    holds = g .holds;
+    counts = g .counts;
+    wrote = g .wrote ∙ written-over (answers bk (ordersTo o n)) (opening bk ∷ []) old (ran-none l h w .wrote) (omega (arith, length-answers bk o n));
+  }
+
   pub ran-gives : {s : Session} {k : ℕ} {space : List ℕ} → RanTo b o old (length o / 8) s k space
       → Gives bk Session current (Holds b) (ordersOf o) s (answerAt space (length o / 8))
   ran-gives {s} {k} {space} h = record {

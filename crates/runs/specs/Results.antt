@@ -1,12 +1,13 @@
 -- What a run of a list gives: its number, and the answer space when it is over.
-use mathlib.Core.Bool.{Bool, _||_, cond, not}
+use mathlib.Core.Path.{_≡_}
+use mathlib.Core.Bool.{Bool, _||_, cond, false, not}
 use mathlib.Core.List.{List}
-use Prim.Native.Nat.{_%_, _*_, _+_, _/_, ℕ}
+use Prim.Native.Nat.{_%_, _*_, _+_, _/_, _≤_, ℕ}
 use lib.Dec.{eqb, leb, ltb}
 use lib.ListN.{length}
 use Rattle.model.specs.Answers.{acceptedCount, answers}
 use Rattle.book.specs.Decoding.{bookOf}
-use Rattle.book.specs.Verdicts.{checkResult, refused}
+use Rattle.book.specs.Verdicts.{Accepted, checkResult, refused}
 use Rattle.engine.specs.Lists.{ordersOf}
 use Rattle.runs.specs.Spaces.{written}
 
@@ -25,6 +26,12 @@ runRefusal b o room =
     cond (leb 65536 (checkResult b)) (checkResult b)
     (cond (wrongList o) (refused 10 0)
     (cond (ltb room (spaceNeeded o)) (refused 11 (spaceNeeded o)) 0))
+
+-- nothing of that applies
+pub record RightInput (b o : List ℕ) (room : ℕ) : Type 0 where
+  pub book : Accepted b
+  pub list : wrongList o ≡ false
+  pub enough : spaceNeeded o ≤ room
 
 -- "Accepted: the number of accepted orders"
 unfoldable pub runResult : List ℕ → List ℕ → ℕ → ℕ

@@ -1,0 +1,33 @@
+// Two whole lists compared: demand 3, of the sessions that the run's own loop gives back.
+use crate::run::*;
+use engine::layout::*;
+use engine::session::*;
+ghost use mathlib.Core.Path.{_≡_};
+ghost use Prim.Native.Nat.{_+_, _*_, _/_, _≤_};
+ghost use lib.ListN.{length};
+ghost use Rattle.runs.specs.Results.{RightInput};
+ghost use Rattle.runs.specs.Runs.{Compares};
+
+// The sessions after two lists.
+pub struct Pair {
+    pub left: Session,
+    pub right: Session,
+}
+
+// Both lists run from the opening, with an answer space for each. What they have in common is demand 3, whole.
+pub fn run_both(book: &[u8], xs: &[u8], ys: &[u8], a: &mut [u8], d: &mut [u8]) -> Pair
+    requires { ⌜ RightInput (now book) (now xs) (length (now a)) × RightInput (now book) (now ys) (length (now d)) ⌝ }
+    ensures { λ r. ⌜ Compares (now (book .entry)) (now (xs .entry)) (now (ys .entry)) (r .left) (r .right) (now (a .exit)) (now (d .exit)) ⌝ }
+{
+    let mut first = [0usize; 8];
+    let mut mask = [0u32; 8];
+    lay_out(book, &mut first, &mut mask);
+    let p = run_orders(book, &first, &mask, xs, a);
+    let q = run_orders(book, &first, &mask, ys, d);
+    let left = p.session;
+    let right = q.session;
+    Pair {
+        left: left,
+        right: right,
+    }
+}

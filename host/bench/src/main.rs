@@ -7,7 +7,9 @@ mod baseline;
 mod checks;
 mod engine;
 mod race;
+mod runs;
 mod sessions;
+mod subjects;
 
 fn main() {
     checks::table();

@@ -14,18 +14,19 @@ pub fn table() {
     println!("| book | bytes | answer | library ns | baseline ns | ratio | ratio of least times |");
     println!("|---|---:|---:|---:|---:|---:|---:|");
     for (name, book) in &books {
-        let [library, baseline] = race([
+        let times = race(&[
             &|| _ = black_box(fitting::check_number(black_box(book))),
             &|| _ = black_box(baseline::check(black_box(book))),
         ]);
+        let [library, baseline] = [&times[0], &times[1]];
         println!(
             "| {name} | {} | {} | {:.0} | {:.0} | {:.2} | {:.2} |",
             book.len(),
             fitting::check_number(book),
-            median(&library),
-            median(&baseline),
-            median(&library) / median(&baseline),
-            least(&library) / least(&baseline)
+            median(library),
+            median(baseline),
+            median(library) / median(baseline),
+            least(library) / least(baseline)
         );
     }
 }

@@ -48,11 +48,12 @@ pub fn run(book: &[u8], orders: &[u8], answers: &mut [u8]) -> u64 {
     run_list(&Book::of(head, blocks), orders, answers.as_chunks_mut().0)
 }
 
-/// The tries that a finish takes at the opening of an accepted book.
-pub fn tries(book: &[u8]) -> u64 {
+/// The tries that a finish takes at the opening of an accepted book, and whether it finds a set.
+pub fn tries(book: &[u8]) -> (u64, bool) {
     let (head, blocks) = book.split_first_chunk().expect("a book has its head");
     let book = Book::of(head, blocks);
-    search::first_solution(&book, &State::opening(&book)).tries
+    let found = search::first_solution(&book, &State::opening(&book));
+    (found.tries, found.domains[0] != 0)
 }
 
 /// Carries out the orders, and gives the number of accepted ones.

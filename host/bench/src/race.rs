@@ -2,20 +2,38 @@
 
 use std::time::{Duration, Instant};
 
-const ROUNDS: usize = 301;
 const ROUND: Duration = Duration::from_micros(400);
 
+/// The most rounds, and the fewest, of jobs that take long.
+const ROUNDS: usize = 301;
+const FEWEST: usize = 15;
+
+/// What rounds past the fewest may take.
+const PATIENCE: Duration = Duration::from_secs(3);
+
 /// The time of one turn of each job in nanoseconds, for every round.
-pub fn race<const N: usize>(jobs: [&dyn Fn(); N]) -> [Vec<f64>; N] {
-    let turns = jobs.map(turns_of_a_round);
-    let mut times = jobs.map(|_| Vec::with_capacity(ROUNDS));
-    for _ in 0..ROUNDS {
-        for i in 0..N {
-            let time = run(jobs[i], turns[i]).as_secs_f64();
+pub fn race(jobs: &[&dyn Fn()]) -> Vec<Vec<f64>> {
+    let turns: Vec<u32> = jobs.iter().map(|job| turns_of_a_round(job)).collect();
+    let mut times = vec![Vec::with_capacity(ROUNDS); jobs.len()];
+    let start = Instant::now();
+    for round in 0..ROUNDS {
+        if round >= FEWEST && start.elapsed() > PATIENCE {
+            break;
+        }
+        for (i, job) in jobs.iter().enumerate() {
+            let time = run(job, turns[i]).as_secs_f64();
             times[i].push(time * 1e9 / f64::from(turns[i]));
         }
     }
     times
+}
+
+/// What each of so many parts adds to so many calls, round by round.
+pub fn added(whole: &[f64], calls: f64, without: &[f64], parts: f64) -> Vec<f64> {
+    let rounds = whole.iter().zip(without);
+    rounds
+        .map(|(whole, without)| (whole - calls * without) / parts)
+        .collect()
 }
 
 /// The middle one of these times.

@@ -39,3 +39,9 @@ pub fn agreed(book: &[u8], orders: &[u8]) -> (u64, Vec<[u8; ANSWER]>) {
     answers.pop();
     (number, answers)
 }
+
+/// The domains of an answer, bytes 8 to 71.
+pub fn domains_of(answer: &[u8; ANSWER]) -> [u32; 16] {
+    let domains = answer[8..].as_chunks().0;
+    std::array::from_fn(|column| u32::from_le_bytes(domains[column]))
+}

@@ -1,6 +1,6 @@
 //! Openings and orders: the library's engine against `engine`.
 
-use crate::race::{least, median, race};
+use crate::race::{added, least, median, race};
 use crate::runs::{agreed, call, RUNS};
 use crate::subjects::{subjects, Subject, TURNS};
 use conformance::Run;
@@ -30,7 +30,7 @@ fn rows(subject: &Subject) {
         }
     });
     let to_and_fro = RUNS.map(|run| move || call(run, &subject.book, &subject.to_and_fro));
-    let times = race([
+    let times = race(&[
         &check[0],
         &check[1],
         &open[0],
@@ -43,25 +43,19 @@ fn rows(subject: &Subject) {
     let [check, open, narrow, to_and_fro] = [0, 2, 4, 6].map(|i| [&times[i][..], &times[i + 1]]);
     let name = &subject.name;
     let narrows = subject.narrows.len() as f64;
-    row(name, "opening", added(open, 1.0, check, 1.0));
-    row(name, "narrow", added(narrow, narrows, open, narrows));
-    let turns = added(to_and_fro, 1.0, open, TURNS as f64);
-    row(name, "mark, narrow, back", turns);
+    row(name, "opening", open, 1.0, check, 1.0);
+    row(name, "narrow", narrow, narrows, open, narrows);
+    let what = "mark, narrow, back";
+    row(name, what, to_and_fro, 1.0, open, TURNS as f64);
 }
 
-/// What each of so many parts adds to so many calls: median and least time of the library, then of
-/// the hand-written engine.
-fn added(whole: [&[f64]; 2], calls: f64, without: [&[f64]; 2], parts: f64) -> [[f64; 2]; 2] {
-    [0, 1].map(|side| {
-        let part = |whole: f64, without: f64| (whole - calls * without) / parts;
-        let rounds = whole[side].iter().zip(without[side]);
-        let parts: Vec<f64> = rounds.map(|(&whole, &rest)| part(whole, rest)).collect();
-        let least = part(least(whole[side]), least(without[side]));
-        [median(&parts), least]
-    })
-}
-
-fn row(name: &str, what: &str, [library, engine]: [[f64; 2]; 2]) {
+/// What each of so many parts adds to so many calls: the library, then the hand-written engine.
+fn row(name: &str, what: &str, whole: [&[f64]; 2], calls: f64, without: [&[f64]; 2], parts: f64) {
+    let [library, engine] = [0, 1].map(|side| {
+        let rounds = added(whole[side], calls, without[side], parts);
+        let [least, rest] = [whole, without].map(|times| least(times[side]));
+        [median(&rounds), (least - calls * rest) / parts]
+    });
     println!(
         "| {name} | {what} | {:.0} | {:.0} | {:.2} | {:.2} |",
         library[0],

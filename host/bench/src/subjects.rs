@@ -1,7 +1,7 @@
 //! The books whose orders are timed, and the lists that are timed on them.
 
 use conformance::{
-    all_values, back, harbour, narrow, plant, regular, write, Book, Order, Random, MARK,
+    all_values, back, harbour, narrow, plant, regular, write, Book, Order, Random, FINISH, MARK,
 };
 
 /// As many of mark, narrow and back as a list has room for.
@@ -15,6 +15,9 @@ pub struct Subject {
     pub narrows: Vec<Order>,
     /// Mark, narrow and back, over and over, with each of the narrows.
     pub to_and_fro: Vec<u8>,
+    /// 17 orders of all kinds, and 256.
+    pub short: Vec<Order>,
+    pub long: Vec<Order>,
 }
 
 pub fn subjects() -> Vec<Subject> {
@@ -55,10 +58,39 @@ fn subject(name: String, book: Book) -> Subject {
     }
     let turn = |narrow: &Order| [MARK, *narrow, back(1)].concat();
     let to_and_fro = narrows.iter().cycle().take(TURNS).flat_map(turn).collect();
+    let visits = (0..15).flat_map(|i| visit(&narrows, 6 * i));
     Subject {
         name,
         book: write(&book),
-        narrows,
         to_and_fro,
+        short: visit(&narrows, 0).to_vec(),
+        long: visits.chain([FINISH]).collect(),
+        narrows,
     }
+}
+
+/// What a buyer does in one visit, with six narrows from this one on: choices, a look at what they
+/// come to, two ways of going on, and home.
+fn visit(narrows: &[Order], first: usize) -> [Order; 17] {
+    let mut narrows = narrows.iter().cycle().skip(first);
+    let [a, b, c, d, e, f] = std::array::from_fn(|_| *narrows.next().unwrap_or(&MARK));
+    [
+        MARK,
+        a,
+        b,
+        MARK,
+        c,
+        d,
+        FINISH,
+        MARK,
+        e,
+        f,
+        FINISH,
+        back(2),
+        f,
+        MARK,
+        c,
+        FINISH,
+        back(1),
+    ]
 }

@@ -3,9 +3,11 @@
 //! It walks rows as the library does. A sheet that waits has its valid rows cut by the columns that
 //! changed since it last looked, and if a row went, its columns are struck to what the rows left
 //! carry. Only the leaves differ by how full a word is: the rows of a full one are read straight
-//! on, in loops that the compiler unrolls or turns into vector code.
+//! on, in loops that the compiler unrolls or turns into vector code. A long search leaves the words
+//! for packed rows.
 
 mod book;
+mod packed;
 mod propagate;
 mod rows;
 mod search;
@@ -15,6 +17,7 @@ mod tests;
 
 use crate::baseline;
 use book::Book;
+use search::Found;
 use state::State;
 
 /// The bytes of an answer.
@@ -28,8 +31,20 @@ struct Level {
     done: u8,
 }
 
+/// The tries after which a search goes on over packed rows: an easy one doesn't pay for packing.
+const EASY: u64 = 32;
+
 /// What `fitting_run` gives and writes.
 pub fn run(book: &[u8], orders: &[u8], answers: &mut [u8]) -> u64 {
+    run_with(EASY, book, orders, answers)
+}
+
+/// The same with every search on words from end to end, as the library has it.
+pub fn run_on_words(book: &[u8], orders: &[u8], answers: &mut [u8]) -> u64 {
+    run_with(u64::MAX, book, orders, answers)
+}
+
+fn run_with(easy: u64, book: &[u8], orders: &[u8], answers: &mut [u8]) -> u64 {
     let number = baseline::check(book);
     if number >> 16 != 0 {
         return number;
@@ -45,19 +60,20 @@ pub fn run(book: &[u8], orders: &[u8], answers: &mut [u8]) -> u64 {
     let Some((head, blocks)) = book.split_first_chunk() else {
         return 1 << 16;
     };
-    run_list(&Book::of(head, blocks), orders, answers.as_chunks_mut().0)
+    let book = Book::of(head, blocks);
+    run_list(&book, easy, orders, answers.as_chunks_mut().0)
 }
 
 /// The tries that a finish takes at the opening of an accepted book, and whether it finds a set.
 pub fn tries(book: &[u8]) -> (u64, bool) {
     let (head, blocks) = book.split_first_chunk().expect("a book has its head");
     let book = Book::of(head, blocks);
-    let found = search::first_solution(&book, &State::opening(&book));
+    let found = search::first_solution(&book, &State::opening(&book), EASY);
     (found.tries, found.domains[0] != 0)
 }
 
 /// Carries out the orders, and gives the number of accepted ones.
-fn run_list(book: &Book, orders: &[[u8; 8]], answers: &mut [[u8; ANSWER]]) -> u64 {
+fn run_list(book: &Book, easy: u64, orders: &[[u8; 8]], answers: &mut [[u8; ANSWER]]) -> u64 {
     // The level of each depth: a mark copies one to the next, a back goes down and copies nothing.
     // Levels that no mark has reached are never written.
     let mut levels = [const { None }; 17];
@@ -85,11 +101,7 @@ fn run_list(book: &Book, orders: &[[u8; 8]], answers: &mut [[u8; ANSWER]]) -> u6
                 depth += 1;
             }
             3 => depth = argument - 1,
-            _ => {
-                found = levels[depth]
-                    .as_ref()
-                    .map(|now| search::first_solution(book, &now.state))
-            }
+            _ => found = search_from(book, easy, &levels[depth]),
         }
         if let Some(now) = &levels[depth] {
             now.write(answer, refusal, depth);
@@ -99,6 +111,11 @@ fn run_list(book: &Book, orders: &[[u8; 8]], answers: &mut [[u8; ANSWER]]) -> u6
         }
     }
     orders.len() as u64 - refused
+}
+
+fn search_from(book: &Book, easy: u64, level: &Option<Level>) -> Option<Found> {
+    let search = |now: &Level| search::first_solution(book, &now.state, easy);
+    level.as_ref().map(search)
 }
 
 fn refusal_of(book: &Book, depth: usize, order: u64) -> u8 {
@@ -140,7 +157,7 @@ impl Level {
     }
 }
 
-fn write_finish(answer: &mut [u8; ANSWER], found: &search::Found) {
+fn write_finish(answer: &mut [u8; ANSWER], found: &Found) {
     answer[3] = if found.domains[0] != 0 { 1 } else { 2 };
     write_domains(answer, &found.domains);
 }

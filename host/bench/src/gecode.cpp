@@ -106,6 +106,8 @@ Held first_solution(const Held &session) {
     }
     Search::Options options;
     options.threads = 1;
+    // A copy at every choice: faster here than to recompute, which is the default.
+    options.c_d = 1;
     DFS<Session> search(session.get(), options);
     return Held(search.next());
 }

@@ -25,16 +25,17 @@ pub fn call(run: Run, book: &[u8], orders: &[u8]) {
     });
 }
 
-/// The number and the answers that both give; they must give the same, before their times say
+/// The number and the answers that all give; they must give the same, before their times say
 /// anything.
 pub fn agreed(book: &[u8], orders: &[u8]) -> (u64, Vec<[u8; ANSWER]>) {
-    let [library, engine] = RUNS.map(|run| {
+    let [library, engine, on_words] = [RUNS[0], RUNS[1], engine::run_on_words].map(|run| {
         // An answer more than is needed shows that it stays untouched.
         let mut answers = vec![[7; ANSWER]; orders.len() / 8 + 2];
         let number = run(book, orders, answers.as_flattened_mut());
         (number, answers)
     });
     assert!(library == engine, "{} and {}", library.0, engine.0);
+    assert!(library == on_words, "{} and {}", library.0, on_words.0);
     let (number, mut answers) = library;
     answers.pop();
     (number, answers)

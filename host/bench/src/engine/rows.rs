@@ -21,13 +21,15 @@ pub fn kept(cells: &[Cell], next_block: u32, place: usize, domain: u32, word: u6
     }
 }
 
-/// Each turn is a test of one bit and a sum with its carry.
+/// Each turn is a test of one bit and a sum with its carry, twice: the two don't wait for each other.
 fn kept_of_all(cells: &[Cell; 64], place: usize, domain: u32) -> u64 {
-    let mut kept = 0;
-    for cell in cells.iter().rev() {
-        kept = kept + kept + u64::from(domain >> (cell[place] & 31) & 1);
+    let fits = |cell: &Cell| u64::from(domain >> (cell[place & 3] & 31) & 1);
+    let (mut low, mut high) = (0, 0);
+    for i in (0..32).rev() {
+        low = low + low + fits(&cells[i]);
+        high = high + high + fits(&cells[i + 32]);
     }
-    kept
+    high << 32 | low
 }
 
 fn kept_of_set(cells: &[Cell], next_block: u32, place: usize, domain: u32, word: u64) -> u64 {
@@ -67,7 +69,7 @@ pub fn gather(cells: &[Cell], next_block: u32, word: u64, seen: &mut [u32; 4]) {
 
 /// Inlined, this and the next are no longer vector code.
 #[inline(never)]
-fn carried_by_all(cells: &[Cell]) -> [u32; 4] {
+pub fn carried_by_all(cells: &[Cell]) -> [u32; 4] {
     let mut carried = [0; 4];
     for cell in cells {
         for place in 0..4 {
@@ -90,4 +92,16 @@ fn carried_by_set(cells: &[Cell], next_block: u32, word: u64) -> [u32; 4] {
         left &= left - 1;
     }
     carried
+}
+
+/// Hands over the rows of a word.
+pub fn for_each_cell(cells: &[Cell], number: usize, word: u64, mut then: impl FnMut(Cell)) {
+    let (first, next_block) = cells_of(number);
+    let cells = &cells[first..];
+    let mut left = word;
+    while left != 0 {
+        let row = left.trailing_zeros();
+        then(cells[row as usize + usize::from(row >= next_block)]);
+        left &= left - 1;
+    }
 }

@@ -1,6 +1,7 @@
 //! Finish: the lowest column that isn't single is set to each of its values in rising order.
 
 use super::book::Book;
+use super::packed;
 use super::propagate::propagate;
 use super::state::State;
 
@@ -11,8 +12,13 @@ pub struct Found {
     pub tries: u64,
 }
 
-pub fn first_solution(book: &Book, state: &State) -> Found {
-    let mut search = Search { book, tries: 0 };
+/// A search that takes more than `easy` tries goes on over packed rows.
+pub fn first_solution(book: &Book, state: &State, easy: u64) -> Found {
+    let mut search = Search {
+        book,
+        easy,
+        tries: 0,
+    };
     let mut copy = *state;
     let found = state.domains[0] != 0 && search.pick(&mut copy, 0);
     Found {
@@ -23,6 +29,7 @@ pub fn first_solution(book: &Book, state: &State) -> Found {
 
 struct Search<'a> {
     book: &'a Book<'a>,
+    easy: u64,
     tries: u64,
 }
 
@@ -35,6 +42,9 @@ impl Search<'_> {
         let Some(column) = (first..columns).find(open) else {
             return true;
         };
+        if self.tries > self.easy {
+            return packed::search(self.book, state, column, &mut self.tries);
+        }
         let mut left = state.domains[column];
         loop {
             let rest = left & (left - 1);

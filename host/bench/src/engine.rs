@@ -3,8 +3,8 @@
 //! It walks rows as the library does. A sheet that waits has its valid rows cut by the columns that
 //! changed since it last looked, and if a row went, its columns are struck to what the rows left
 //! carry. Only the leaves differ by how full a word is: the rows of a full one are read straight
-//! on, in loops that the compiler unrolls or turns into vector code. A long search leaves the words
-//! for packed rows.
+//! on, in loops that the compiler unrolls or turns into vector code. Finish leaves the words for
+//! packed rows.
 
 mod book;
 mod packed;
@@ -31,12 +31,13 @@ struct Level {
     done: u8,
 }
 
-/// The tries after which a search goes on over packed rows: an easy one doesn't pay for packing.
-const EASY: u64 = 32;
+/// The tries that a search makes on words before it goes on over packed rows: one, since words are
+/// faster as long as most rows are valid.
+const ON_WORDS: u64 = 1;
 
 /// What `fitting_run` gives and writes.
 pub fn run(book: &[u8], orders: &[u8], answers: &mut [u8]) -> u64 {
-    run_with(EASY, book, orders, answers)
+    run_with(ON_WORDS, book, orders, answers)
 }
 
 /// The same with every search on words from end to end, as the library has it.
@@ -44,7 +45,7 @@ pub fn run_on_words(book: &[u8], orders: &[u8], answers: &mut [u8]) -> u64 {
     run_with(u64::MAX, book, orders, answers)
 }
 
-fn run_with(easy: u64, book: &[u8], orders: &[u8], answers: &mut [u8]) -> u64 {
+fn run_with(on_words: u64, book: &[u8], orders: &[u8], answers: &mut [u8]) -> u64 {
     let number = baseline::check(book);
     if number >> 16 != 0 {
         return number;
@@ -61,19 +62,19 @@ fn run_with(easy: u64, book: &[u8], orders: &[u8], answers: &mut [u8]) -> u64 {
         return 1 << 16;
     };
     let book = Book::of(head, blocks);
-    run_list(&book, easy, orders, answers.as_chunks_mut().0)
+    run_list(&book, on_words, orders, answers.as_chunks_mut().0)
 }
 
 /// The tries that a finish takes at the opening of an accepted book, and whether it finds a set.
 pub fn tries(book: &[u8]) -> (u64, bool) {
     let (head, blocks) = book.split_first_chunk().expect("a book has its head");
     let book = Book::of(head, blocks);
-    let found = search::first_solution(&book, &State::opening(&book), EASY);
+    let found = search::first_solution(&book, &State::opening(&book), ON_WORDS);
     (found.tries, found.domains[0] != 0)
 }
 
 /// Carries out the orders, and gives the number of accepted ones.
-fn run_list(book: &Book, easy: u64, orders: &[[u8; 8]], answers: &mut [[u8; ANSWER]]) -> u64 {
+fn run_list(book: &Book, on_words: u64, orders: &[[u8; 8]], answers: &mut [[u8; ANSWER]]) -> u64 {
     // The level of each depth: a mark copies one to the next, a back goes down and copies nothing.
     // Levels that no mark has reached are never written.
     let mut levels = [const { None }; 17];
@@ -101,7 +102,7 @@ fn run_list(book: &Book, easy: u64, orders: &[[u8; 8]], answers: &mut [[u8; ANSW
                 depth += 1;
             }
             3 => depth = argument - 1,
-            _ => found = search_from(book, easy, &levels[depth]),
+            _ => found = search_from(book, on_words, &levels[depth]),
         }
         if let Some(now) = &levels[depth] {
             now.write(answer, refusal, depth);
@@ -113,8 +114,8 @@ fn run_list(book: &Book, easy: u64, orders: &[[u8; 8]], answers: &mut [[u8; ANSW
     orders.len() as u64 - refused
 }
 
-fn search_from(book: &Book, easy: u64, level: &Option<Level>) -> Option<Found> {
-    let search = |now: &Level| search::first_solution(book, &now.state, easy);
+fn search_from(book: &Book, on_words: u64, level: &Option<Level>) -> Option<Found> {
+    let search = |now: &Level| search::first_solution(book, &now.state, on_words);
     level.as_ref().map(search)
 }
 

@@ -12,7 +12,7 @@ use conformance::FINISH;
 pub fn table() {
     println!(
         "\nFinish alone, without the check and the opening. The hand-written engine leaves its words \
-         for packed rows after a few tries; \"on words\" is the same engine if it doesn't, which is how \
+         for packed rows after its first try; \"on words\" is the same engine if it doesn't, which is how \
          the library searches. Gecode starts at the opening, its model built and settled.\n"
     );
     println!(

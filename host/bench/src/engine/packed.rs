@@ -1,4 +1,4 @@
-//! The search over packed rows: what a long search goes on with.
+//! The search over packed rows, which finish goes on with.
 //!
 //! Deep in a search few rows are valid, and walking them bit by bit costs a mispredicted branch for
 //! every word. Here the valid rows of a sheet stand first in a list of its own, one after the other.

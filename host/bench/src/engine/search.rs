@@ -12,11 +12,11 @@ pub struct Found {
     pub tries: u64,
 }
 
-/// A search that takes more than `easy` tries goes on over packed rows.
-pub fn first_solution(book: &Book, state: &State, easy: u64) -> Found {
+/// After so many tries on words the search goes on over packed rows.
+pub fn first_solution(book: &Book, state: &State, on_words: u64) -> Found {
     let mut search = Search {
         book,
-        easy,
+        on_words,
         tries: 0,
     };
     let mut copy = *state;
@@ -29,7 +29,7 @@ pub fn first_solution(book: &Book, state: &State, easy: u64) -> Found {
 
 struct Search<'a> {
     book: &'a Book<'a>,
-    easy: u64,
+    on_words: u64,
     tries: u64,
 }
 
@@ -42,7 +42,7 @@ impl Search<'_> {
         let Some(column) = (first..columns).find(open) else {
             return true;
         };
-        if self.tries > self.easy {
+        if self.tries >= self.on_words {
             return packed::search(self.book, state, column, &mut self.tries);
         }
         let mut left = state.domains[column];

@@ -1,6 +1,6 @@
 //! The engine against the reference: its closure, and a plain search over it.
 
-use super::{run, ANSWER};
+use super::{run, run_with, ANSWER};
 use conformance::{Order, Run, Shape};
 use reference::{closure, decode, session, Book, Shown};
 
@@ -8,43 +8,48 @@ use reference::{closure, decode, session, Book, Shown};
 fn the_engine_agrees_with_the_reference() {
     let mut finishes = [0; 3];
     for seed in 0..10_000 {
-        let Run {
-            shape,
-            book,
-            orders,
-        } = Run::new(seed);
-        let mut answers = [7; ANSWER * 258];
-        let number = run(&book, &orders, &mut answers);
-        let Some(described) = decode(&book) else {
-            assert_eq!(number, reference::check(&book), "seed {seed}");
+        let run = Run::new(seed);
+        let mut answers = [[7; ANSWER]; 258];
+        let number = super::run(&run.book, &run.orders, answers.as_flattened_mut());
+        // Every search on words, and every one packed from its first try on.
+        for on_words in [u64::MAX, 0] {
+            let mut others = [[7; ANSWER]; 258];
+            let other = run_with(on_words, &run.book, &run.orders, others.as_flattened_mut());
+            assert!(other == number && others == answers, "seed {seed}");
+        }
+        let Some(book) = decode(&run.book) else {
+            assert_eq!(number, reference::check(&run.book), "seed {seed}");
             continue;
         };
-        if orders.len() % 8 != 0 || orders.len() > 2_048 {
+        if run.orders.len() % 8 != 0 || run.orders.len() > 2_048 {
             assert_eq!(number, 10 << 16, "seed {seed}");
             continue;
         }
-        let orders: &[Order] = orders.as_chunks().0;
-        let shown = session(&described, orders);
-        let refused = shown.iter().filter(|shown| shown.refusal != 0).count();
-        assert_eq!(number as usize, orders.len() - refused, "seed {seed}");
-        let answers = answers.as_chunks::<ANSWER>().0;
-        for (i, shown) in shown.iter().enumerate() {
-            let is_finish = shown.refusal == 0 && i > 0 && orders[i - 1][0] == 4;
-            // The search over the reference's closure is too slow for these.
-            if is_finish && shape == Shape::Largest {
-                assert_eq!(answers[i][..3], answer(&described, shown, false)[..3]);
-                continue;
-            }
-            let right = answer(&described, shown, is_finish);
-            finishes[usize::from(right[3])] += 1;
-            assert_eq!(answers[i], right, "seed {seed}, answer {i}");
-        }
-        assert!(answers[shown.len()..]
-            .as_flattened()
-            .iter()
-            .all(|&byte| byte == 7));
+        let accepted = compare(&run, &book, &answers, &mut finishes);
+        assert_eq!(number as usize, accepted, "seed {seed}");
     }
     assert!(finishes.iter().all(|&times| times > 500), "{finishes:?}");
+}
+
+/// Compares the answers, and gives the number of accepted orders.
+fn compare(run: &Run, book: &Book, answers: &[[u8; ANSWER]], finishes: &mut [usize; 3]) -> usize {
+    let orders: &[Order] = run.orders.as_chunks().0;
+    let shown = session(book, orders);
+    for (i, shown) in shown.iter().enumerate() {
+        let is_finish = shown.refusal == 0 && i > 0 && orders[i - 1][0] == 4;
+        // The search over the reference's closure is too slow for these.
+        if is_finish && run.shape == Shape::Largest {
+            assert_eq!(answers[i][..3], answer(book, shown, false)[..3]);
+            continue;
+        }
+        let right = answer(book, shown, is_finish);
+        finishes[usize::from(right[3])] += 1;
+        assert_eq!(answers[i], right, "answer {i}");
+    }
+    assert!(answers[shown.len()..]
+        .iter()
+        .all(|answer| *answer == [7; ANSWER]));
+    shown.iter().filter(|shown| shown.refusal == 0).count() - 1
 }
 
 #[test]

@@ -1,7 +1,7 @@
 //! Finish on hard books: the library, the hand-written engine and Gecode.
 
 use crate::engine;
-use crate::gecode::{Opening, Tables};
+use crate::gecode::{self, Opening, Tables};
 use crate::hard::{self, Hard};
 use crate::race::{added, least, median, race};
 use crate::runs::{agreed, call, domains_of, RUNS};
@@ -12,9 +12,14 @@ use conformance::FINISH;
 pub fn table() {
     println!(
         "\nFinish alone, without the check and the opening. The hand-written engine leaves its words \
-         for packed rows after its first try; \"on words\" is the same engine if it doesn't, which is how \
-         the library searches. Gecode starts at the opening, its model built and settled.\n"
+         for packed rows after its first try; \"on words\" is the same engine if it doesn't, which is \
+         how the library searches."
     );
+    if gecode::FOUND {
+        println!("Gecode starts at the opening, its model built and settled.\n");
+    } else {
+        println!("Gecode was not found: it has no figures.\n");
+    }
     println!(
         "| book | full set | tries | library µs | hand-written µs | on words µs | Gecode µs \
          | library / hand-written | of least times | library / on words | library / Gecode |"

@@ -70,11 +70,13 @@ fn agree(subjects: &[Subject]) {
         }
     }
     if gecode::FOUND {
-        println!("\nGecode agrees on these lists and on {AGREEMENTS} seeded ones.");
+        println!(
+            "\nGecode agrees on these lists and on {AGREEMENTS} seeded ones. Its runs show nobody \
+             their domains; the others write their answers.\n"
+        );
     } else {
-        println!("\nGecode was not found: it has no figures.");
+        println!("\nGecode was not found: it has no figures.\n");
     }
-    println!("Its runs show nobody their domains; the others write their answers.\n");
 }
 
 /// Library, engine and Gecode on this list; the number of accepted orders. Gecode gets only these.

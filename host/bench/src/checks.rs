@@ -15,8 +15,8 @@ pub fn table() {
     println!("|---|---:|---:|---:|---:|---:|---:|");
     for (name, book) in &books {
         let times = race(&[
-            &|| _ = black_box(fitting::check_number(black_box(book))),
-            &|| _ = black_box(baseline::check(black_box(book))),
+            Box::new(|| _ = black_box(fitting::check_number(black_box(book)))),
+            Box::new(|| _ = black_box(baseline::check(black_box(book)))),
         ]);
         let [library, baseline] = [&times[0], &times[1]];
         println!(

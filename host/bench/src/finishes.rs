@@ -1,30 +1,23 @@
-//! Finish on hard books: the library, the hand-written engine and Gecode.
+//! Finish on hard books: the library, the hand-written engines and Gecode.
 
-use crate::engine;
 use crate::gecode::{self, Opening, Tables};
 use crate::hard::{self, Hard};
-use crate::race::{added, least, median, race};
+use crate::race::{race, Job};
 use crate::runs::{agreed, call, domains_of, RUNS};
-use crate::table::{micros, ratio};
+use crate::table::{self, heads, micros, three, Time};
 use conformance::FINISH;
 
 /// Prints a row for each book.
 pub fn table() {
-    println!(
-        "\nFinish alone, without the check and the opening. The hand-written engine leaves its words \
-         for packed rows after its first try; \"on words\" is the same engine if it doesn't, which is \
-         how the library searches."
-    );
+    println!("\nFinish alone, without the check and the opening.");
     if gecode::FOUND {
         println!("Gecode starts at the opening, its model built and settled.\n");
     } else {
         println!("Gecode was not found: it has no figures.\n");
     }
-    println!(
-        "| book | full set | tries | library µs | hand-written µs | on words µs | Gecode µs \
-         | library / hand-written | of least times | library / on words | library / Gecode |"
-    );
-    println!("|---|---|---:|---:|---:|---:|---:|---:|---:|---:|---:|");
+    let heads = heads("µs");
+    println!("| book | full set | tries | {heads} | Gecode µs | library / Gecode |");
+    println!("|---|---|---:|---:|---:|---:|---:|---:|---:|---:|");
     for hard in hard::books() {
         row(&hard);
     }
@@ -32,30 +25,23 @@ pub fn table() {
 
 fn row(hard: &Hard) {
     let gecode = opening(hard);
-    let open = RUNS.map(|run| move || call(run, &hard.book, &[]));
-    let [library, engine, on_words] =
-        [RUNS[0], RUNS[1], engine::run_on_words].map(|run| move || call(run, &hard.book, &FINISH));
-    let gecode = gecode.as_ref().map(|opening| || opening.finish());
-    let mut jobs: Vec<&dyn Fn()> = vec![&open[0], &open[1], &library, &engine, &on_words];
-    jobs.extend(gecode.as_ref().map(|job| job as &dyn Fn()));
+    let mut jobs: Vec<Job> = Vec::new();
+    for run in RUNS {
+        jobs.push(Box::new(move || call(run, &hard.book, &[])));
+        jobs.push(Box::new(move || call(run, &hard.book, &FINISH)));
+    }
+    if let Some(opening) = &gecode {
+        jobs.push(Box::new(|| opening.finish()));
+    }
     let times = race(&jobs);
-    let finish = |i: usize, open: usize| added(&times[i], 1.0, &times[open], 1.0);
-    let [library, engine, on_words] = [finish(2, 0), finish(3, 1), finish(4, 1)];
-    let time = median(&library);
-    let others = [Some(&engine), Some(&on_words), times.get(5)].map(|it| it.map(|it| median(it)));
+    let all = [0, 2, 4].map(|run| Time::added(&times[run + 1], 1.0, &times[run], 1.0));
     println!(
-        "| {} | {} | {} | {} | {} | {} | {} | {} | {} | {} | {} |",
+        "| {} | {} | {} | {} | {} |",
         hard.name,
         if hard.found { "found" } else { "none" },
         hard.tries,
-        micros(Some(time)),
-        micros(others[0]),
-        micros(others[1]),
-        micros(others[2]),
-        ratio(time, others[0]),
-        ratio(least(&library), Some(least(&engine))),
-        ratio(time, others[1]),
-        ratio(time, others[2])
+        three(all, micros),
+        table::gecode(all[0], times.get(6))
     );
 }
 

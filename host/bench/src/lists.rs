@@ -1,10 +1,10 @@
-//! Whole runs of lists: the library, the hand-written engine and Gecode.
+//! Whole runs of lists: the library, the hand-written engines and Gecode.
 
 use crate::gecode::{self, Tables};
-use crate::race::{least, median, race};
+use crate::race::{race, Job};
 use crate::runs::{agreed, call, domains_of, RUNS};
 use crate::subjects::{subjects, Subject};
-use crate::table::{micros, ratio};
+use crate::table::{self, heads, micros, three, Time};
 use conformance::{Order, Run};
 
 /// Seeded lists that Gecode must agree on.
@@ -14,11 +14,12 @@ const AGREEMENTS: u64 = 1_000;
 pub fn table() {
     let subjects = subjects();
     agree(&subjects);
+    let heads = heads("µs");
     println!(
-        "| book | orders | library µs | hand-written µs | Gecode µs | Gecode with its tables µs \
-         | library / hand-written | of least times | library / Gecode | with its tables |"
+        "| book | orders | {heads} | Gecode µs | library / Gecode | Gecode with its tables µs \
+         | library / that |"
     );
-    println!("|---|---:|---:|---:|---:|---:|---:|---:|---:|---:|");
+    println!("|---|---:|---:|---:|---:|---:|---:|---:|---:|---:|---:|");
     for subject in &subjects {
         row(subject, &subject.short);
         row(subject, &subject.long);
@@ -27,31 +28,25 @@ pub fn table() {
 
 fn row(subject: &Subject, orders: &[Order]) {
     let book = fitting::check(&subject.book).expect("a right book");
-    let run = RUNS.map(|run| move || call(run, &subject.book, orders.as_flattened()));
-    let mut jobs: Vec<&dyn Fn()> = vec![&run[0], &run[1]];
-    let tables = Tables::of(&book);
-    let gecode = tables.as_ref().map(|tables| {
-        let with_tables = || Tables::of(&book).into_iter().for_each(|it| it.run(orders));
-        (|| tables.run(orders), with_tables)
-    });
-    if let Some((without, with)) = &gecode {
-        jobs.extend([without as &dyn Fn(), with]);
+    let mut jobs: Vec<Job> = Vec::new();
+    for run in RUNS {
+        let orders = orders.as_flattened();
+        jobs.push(Box::new(move || call(run, &subject.book, orders)));
+    }
+    if let Some(tables) = Tables::of(&book) {
+        jobs.push(Box::new(move || tables.run(orders)));
+        let with_tables = move || Tables::of(&book).into_iter().for_each(|it| it.run(orders));
+        jobs.push(Box::new(with_tables));
     }
     let times = race(&jobs);
-    let time = median(&times[0]);
-    let [engine, without, with] = [1, 2, 3].map(|i| times.get(i).map(|times| median(times)));
+    let all = [0, 1, 2].map(|run| Time::of(&times[run]));
     println!(
-        "| {} | {} | {} | {} | {} | {} | {} | {} | {} | {} |",
+        "| {} | {} | {} | {} | {} |",
         subject.name,
         orders.len(),
-        micros(Some(time)),
-        micros(engine),
-        micros(without),
-        micros(with),
-        ratio(time, engine),
-        ratio(least(&times[0]), Some(least(&times[1]))),
-        ratio(time, without),
-        ratio(time, with)
+        three(all, micros),
+        table::gecode(all[0], times.get(3)),
+        table::gecode(all[0], times.get(4))
     );
 }
 
@@ -65,7 +60,7 @@ fn agree(subjects: &[Subject]) {
     }
     for seed in 0..AGREEMENTS {
         let Run { book, orders, .. } = Run::new(seed);
-        if orders.len() % 8 == 0 && orders.len() <= 2_048 {
+        if orders.len().is_multiple_of(8) && orders.len() <= 2_048 {
             agree_on(&book, orders.as_chunks().0);
         }
     }
@@ -79,7 +74,7 @@ fn agree(subjects: &[Subject]) {
     }
 }
 
-/// Library, engine and Gecode on this list; the number of accepted orders. Gecode gets only these.
+/// Library, engines and Gecode on this list; the number of accepted orders. Gecode gets only these.
 fn agree_on(bytes: &[u8], orders: &[Order]) -> usize {
     let (_, answers) = agreed(bytes, orders.as_flattened());
     let Ok(book) = fitting::check(bytes) else {

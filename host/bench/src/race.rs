@@ -11,8 +11,11 @@ const FEWEST: usize = 15;
 /// What rounds past the fewest may take.
 const PATIENCE: Duration = Duration::from_secs(3);
 
+/// Something to be timed.
+pub type Job<'a> = Box<dyn Fn() + 'a>;
+
 /// The time of one turn of each job in nanoseconds, for every round.
-pub fn race(jobs: &[&dyn Fn()]) -> Vec<Vec<f64>> {
+pub fn race(jobs: &[Job]) -> Vec<Vec<f64>> {
     let turns: Vec<u32> = jobs.iter().map(|job| turns_of_a_round(job)).collect();
     let mut times = vec![Vec::with_capacity(ROUNDS); jobs.len()];
     let start = Instant::now();
@@ -26,14 +29,6 @@ pub fn race(jobs: &[&dyn Fn()]) -> Vec<Vec<f64>> {
         }
     }
     times
-}
-
-/// What each of so many parts adds to so many calls, round by round.
-pub fn added(whole: &[f64], calls: f64, without: &[f64], parts: f64) -> Vec<f64> {
-    let rounds = whole.iter().zip(without);
-    rounds
-        .map(|(whole, without)| (whole - calls * without) / parts)
-        .collect()
 }
 
 /// The middle one of these times.

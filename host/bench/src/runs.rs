@@ -1,4 +1,4 @@
-//! The two that are compared: the library's run of a list, and the hand-written engine's.
+//! The three that are compared: the library's run of a list, and the hand-written engines'.
 
 use crate::engine::{self, ANSWER};
 use std::cell::RefCell;
@@ -7,8 +7,8 @@ use std::hint::black_box;
 /// A run of a list: book, orders, answers.
 pub type Run = fn(&[u8], &[u8], &mut [u8]) -> u64;
 
-/// The library, then the hand-written engine.
-pub const RUNS: [Run; 2] = [fitting::run_number, engine::run];
+/// The library, then the hand-written engine with its rows packed and with its rows in words.
+pub const RUNS: [Run; 3] = [fitting::run_number, engine::run, engine::run_on_words];
 
 /// The space that the longest list needs.
 const SPACE: usize = ANSWER * 257;
@@ -28,14 +28,14 @@ pub fn call(run: Run, book: &[u8], orders: &[u8]) {
 /// The number and the answers that all give; they must give the same, before their times say
 /// anything.
 pub fn agreed(book: &[u8], orders: &[u8]) -> (u64, Vec<[u8; ANSWER]>) {
-    let [library, engine, on_words] = [RUNS[0], RUNS[1], engine::run_on_words].map(|run| {
+    let [library, packed, words] = RUNS.map(|run| {
         // An answer more than is needed shows that it stays untouched.
         let mut answers = vec![[7; ANSWER]; orders.len() / 8 + 2];
         let number = run(book, orders, answers.as_flattened_mut());
         (number, answers)
     });
-    assert!(library == engine, "{} and {}", library.0, engine.0);
-    assert!(library == on_words, "{} and {}", library.0, on_words.0);
+    assert!(library == packed, "{} and {}", library.0, packed.0);
+    assert!(library == words, "{} and {}", library.0, words.0);
     let (number, mut answers) = library;
     answers.pop();
     (number, answers)

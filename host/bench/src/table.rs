@@ -1,16 +1,63 @@
-//! Figures of a row; a dash where there is none.
+//! The figures of a row.
 
-/// Nanoseconds as microseconds, to three figures.
-pub fn micros(nanos: Option<f64>) -> String {
-    match nanos.map(|nanos| nanos / 1e3) {
-        None => "–".into(),
-        Some(micros) if micros < 10.0 => format!("{micros:.2}"),
-        Some(micros) if micros < 100.0 => format!("{micros:.1}"),
-        Some(micros) => format!("{micros:.0}"),
+use crate::race::{least, median};
+
+/// What one contender takes, in nanoseconds.
+#[derive(Clone, Copy)]
+pub struct Time {
+    pub median: f64,
+    pub least: f64,
+}
+
+impl Time {
+    pub fn of(times: &[f64]) -> Self {
+        Self {
+            median: median(times),
+            least: least(times),
+        }
+    }
+
+    /// What each of so many parts adds to so many calls: the median of the rounds' differences, and
+    /// the difference of the least times.
+    pub fn added(whole: &[f64], calls: f64, without: &[f64], parts: f64) -> Self {
+        let part = |(whole, without): (&f64, &f64)| (whole - calls * without) / parts;
+        let rounds: Vec<f64> = whole.iter().zip(without).map(part).collect();
+        Self {
+            median: median(&rounds),
+            least: part((&least(whole), &least(without))),
+        }
     }
 }
 
-/// The first time over the other.
-pub fn ratio(time: f64, other: Option<f64>) -> String {
-    other.map_or("–".into(), |other| format!("{:.2}", time / other))
+/// The library's time and those of the two hand-written engines, then the library's over that of the
+/// faster one, by the medians and by the least times.
+pub fn three(times: [Time; 3], shown: impl Fn(f64) -> String) -> String {
+    let [library, packed, words] = times;
+    let median = library.median / packed.median.min(words.median);
+    let least = library.least / packed.least.min(words.least);
+    let [library, packed, words] = times.map(|time| shown(time.median));
+    format!("{library} | {packed} | {words} | {median:.2} | {least:.2}")
+}
+
+/// Gecode's time and the library's over it; dashes without Gecode.
+pub fn gecode(library: Time, times: Option<&Vec<f64>>) -> String {
+    let Some(times) = times else {
+        return "– | –".into();
+    };
+    let time = median(times);
+    format!("{} | {:.2}", micros(time), library.median / time)
+}
+
+/// Nanoseconds as microseconds, to three figures.
+pub fn micros(nanos: f64) -> String {
+    match nanos / 1e3 {
+        micros if micros < 10.0 => format!("{micros:.2}"),
+        micros if micros < 100.0 => format!("{micros:.1}"),
+        micros => format!("{micros:.0}"),
+    }
+}
+
+/// The heads of the columns of `three`.
+pub fn heads(unit: &str) -> String {
+    format!("library {unit} | packed {unit} | words {unit} | library / faster | of least times")
 }

@@ -49,6 +49,15 @@ impl<'a> Book<'a> {
         }
         book
     }
+
+    /// All values of every column.
+    pub fn domains(&self) -> [u32; 16] {
+        let mut domains = [0; 16];
+        for (domain, &count) in domains.iter_mut().zip(&self.head[8..24]) {
+            *domain = ((1_u64 << count) - 1) as u32;
+        }
+        domains
+    }
 }
 
 pub fn entries(head: &[u8; 512]) -> &[[u8; 8]] {

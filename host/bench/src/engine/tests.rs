@@ -1,6 +1,6 @@
 //! The engine against the reference: its closure, and a plain search over it.
 
-use super::{run, run_with, ANSWER};
+use super::{run, run_on_words, ANSWER};
 use conformance::{Order, Run, Shape};
 use reference::{closure, decode, session, Book, Shown};
 
@@ -11,17 +11,14 @@ fn the_engine_agrees_with_the_reference() {
         let run = Run::new(seed);
         let mut answers = [[7; ANSWER]; 258];
         let number = super::run(&run.book, &run.orders, answers.as_flattened_mut());
-        // Every search on words, and every one packed from its first try on.
-        for on_words in [u64::MAX, 0] {
-            let mut others = [[7; ANSWER]; 258];
-            let other = run_with(on_words, &run.book, &run.orders, others.as_flattened_mut());
-            assert!(other == number && others == answers, "seed {seed}");
-        }
+        let mut others = [[7; ANSWER]; 258];
+        let other = run_on_words(&run.book, &run.orders, others.as_flattened_mut());
+        assert!(other == number && others == answers, "seed {seed}");
         let Some(book) = decode(&run.book) else {
             assert_eq!(number, reference::check(&run.book), "seed {seed}");
             continue;
         };
-        if run.orders.len() % 8 != 0 || run.orders.len() > 2_048 {
+        if !run.orders.len().is_multiple_of(8) || run.orders.len() > 2_048 {
             assert_eq!(number, 10 << 16, "seed {seed}");
             continue;
         }

@@ -1,8 +1,8 @@
 //! Propagation: the waiting sheets are looked at, and those that this touches, until none waits.
 
-use super::book::{Book, Sheet};
+use super::super::book::{Book, Sheet};
 use super::rows::{cells_of, gather, kept};
-use super::state::State;
+use super::State;
 
 /// Each waiting sheet has yet to see that these columns changed; a fresh one has its columns struck
 /// even if none of its rows is cut. Whether every sheet has a valid row left: otherwise the state

@@ -1,6 +1,6 @@
 //! The leaves: the rows of one word, by how full it is.
 
-use super::book::Cell;
+use super::super::book::Cell;
 
 /// The cell of a word's first row, and the number of its first row that is in the next block: a
 /// block has one cell more than rows, its check.
@@ -69,7 +69,7 @@ pub fn gather(cells: &[Cell], next_block: u32, word: u64, seen: &mut [u32; 4]) {
 
 /// Inlined, this and the next are no longer vector code.
 #[inline(never)]
-pub fn carried_by_all(cells: &[Cell]) -> [u32; 4] {
+fn carried_by_all(cells: &[Cell]) -> [u32; 4] {
     let mut carried = [0; 4];
     for cell in cells {
         for place in 0..4 {
@@ -92,16 +92,4 @@ fn carried_by_set(cells: &[Cell], next_block: u32, word: u64) -> [u32; 4] {
         left &= left - 1;
     }
     carried
-}
-
-/// Hands over the rows of a word.
-pub fn for_each_cell(cells: &[Cell], number: usize, word: u64, mut then: impl FnMut(Cell)) {
-    let (first, next_block) = cells_of(number);
-    let cells = &cells[first..];
-    let mut left = word;
-    while left != 0 {
-        let row = left.trailing_zeros();
-        then(cells[row as usize + usize::from(row >= next_block)]);
-        left &= left - 1;
-    }
 }

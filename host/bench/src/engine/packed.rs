@@ -87,21 +87,20 @@ impl Packed<'_> {
             if length == 0 {
                 return false;
             }
-            changed[s] = 0;
-            waiting &= !(1 << s);
             if length < usize::from(now.lengths[s]) || fresh >> s & 1 == 1 {
                 now.lengths[s] = length as u16;
                 let lost = strike(sheet, &self.lists[s][..length], now);
+                for changed in &mut changed {
+                    *changed |= lost;
+                }
                 let mut left = lost;
                 while left != 0 {
                     waiting |= self.book.sheets_of[left.trailing_zeros() as usize];
                     left &= left - 1;
                 }
-                for (other, changed) in changed.iter_mut().enumerate() {
-                    *changed |= if other == s { 0 } else { lost };
-                }
-                waiting &= !(1 << s);
             }
+            changed[s] = 0;
+            waiting &= !(1 << s);
             fresh &= !(1 << s);
         }
         true

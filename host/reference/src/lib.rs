@@ -1,21 +1,26 @@
-//! An independent version of the book check and of the narrowing, written from document 01 and the
-//! readings of it in `docs/DECISIONS.md`, and from nothing else.
+//! An independent version of the two calls, the check of a book and the run of a list, written from
+//! document 01 and the readings of it in `docs/DECISIONS.md`, and from nothing else.
 //!
 //! It is meant to be read beside that document: each piece stands under the sentence that it
 //! states. Where slow is plainer it is slow, and it shares nothing with any other crate.
 
+mod answers;
 mod book;
 mod closure;
+mod finish;
 mod head;
 mod orders;
+mod run;
 mod session;
 #[cfg(test)]
 mod tests;
 
+pub use answers::{done, status};
 pub use book::{decode, Book, Sheet};
 pub use closure::closure;
 pub use orders::Order;
-pub use session::{probe, session, Shown};
+pub use run::{printed, run};
+pub use session::{probe, session, Outcome, Shown};
 
 /// "A book is 1 to 33 blocks of 512 bytes."
 const BLOCK: usize = 512;

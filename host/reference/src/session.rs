@@ -1,6 +1,7 @@
 //! A list of orders over a book, and what each order leaves.
 
 use crate::closure::closure;
+use crate::finish::first_full_set;
 use crate::orders::{allowed, depth, refusal, stand, Entry, Order};
 use crate::{check, decode, Book};
 
@@ -13,29 +14,50 @@ pub struct Shown {
     pub depth: usize,
     /// "The current domains", one mask for each of the C columns.
     pub domains: Vec<u32>,
+    /// What an accepted finish found.
+    pub outcome: Outcome,
+}
+
+/// "byte 3 zero, or for an accepted finish 1 found, 2 none"
+#[derive(Clone, Debug, PartialEq, Eq)]
+pub enum Outcome {
+    /// The opening, a refused order, or one of another kind.
+    NoFinish,
+    /// The first full set, one value for each of the C columns.
+    Found(Vec<u8>),
+    /// There is no full set.
+    None,
 }
 
 /// The opening, then what stands after each order of the list.
 pub fn session(book: &Book, orders: &[Order]) -> Vec<Shown> {
     let mut trail = Vec::new();
-    let mut shown = vec![show(book, &trail, 0)];
+    let mut shown = vec![show(book, &trail, 0, false)];
     for order in orders {
         let refusal = refusal(book, &trail, order);
         if refusal == 0 {
             stand(&mut trail, order);
         }
-        shown.push(show(book, &trail, refusal));
+        let finish = refusal == 0 && order[0] == 4;
+        shown.push(show(book, &trail, refusal, finish));
     }
     shown
 }
 
 /// "The current domains after a list are the settled domains of its allowed values"; nothing is
 /// kept from the order before.
-fn show(book: &Book, trail: &[Entry], refusal: u8) -> Shown {
+fn show(book: &Book, trail: &[Entry], refusal: u8, finish: bool) -> Shown {
+    let domains = closure(book, &allowed(book, trail));
+    let outcome = if finish {
+        first_full_set(book, &domains).map_or(Outcome::None, Outcome::Found)
+    } else {
+        Outcome::NoFinish
+    };
     Shown {
         refusal,
         depth: depth(trail),
-        domains: closure(book, &allowed(book, trail)),
+        domains,
+        outcome,
     }
 }
 

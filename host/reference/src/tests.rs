@@ -1,7 +1,9 @@
 //! The examples of document 01 and each refusal, worked by hand.
 
 mod boxes;
+mod finish;
 mod orders;
+mod run;
 
 use crate::{check, decode, head, Book, Sheet};
 

@@ -51,10 +51,10 @@ fn union_of_sound_boxes(book: &Book, allowed: &[u32]) -> Vec<u32> {
 }
 
 /// Numbers from a seed: a step of a linear congruence, its upper bits.
-struct Numbers(u64);
+pub(super) struct Numbers(pub(super) u64);
 
 impl Numbers {
-    fn below(&mut self, end: u64) -> u64 {
+    pub(super) fn below(&mut self, end: u64) -> u64 {
         self.0 = (self.0.wrapping_mul(6_364_136_223_846_793_005)).wrapping_add(1);
         (self.0 >> 33) % end
     }

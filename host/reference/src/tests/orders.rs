@@ -1,20 +1,20 @@
 //! Orders on document 01's books, worked by hand.
 
 use super::{changed, harbour, refused};
-use crate::{closure, decode, probe, session, Book, Order, Sheet, Shown};
+use crate::{closure, decode, probe, session, Book, Order, Outcome, Sheet, Shown};
 
-const MARK: Order = [2, 0, 0, 0, 0, 0, 0, 0];
-const FINISH: Order = [4, 0, 0, 0, 0, 0, 0, 0];
-const WIDTH: u8 = 0;
-const MOTOR: u8 = 1;
-const BOARD: u8 = 2;
+pub(super) const MARK: Order = [2, 0, 0, 0, 0, 0, 0, 0];
+pub(super) const FINISH: Order = [4, 0, 0, 0, 0, 0, 0, 0];
+pub(super) const WIDTH: u8 = 0;
+pub(super) const MOTOR: u8 = 1;
+pub(super) const BOARD: u8 = 2;
 
-fn narrow(column: u8, mask: u32) -> Order {
+pub(super) fn narrow(column: u8, mask: u32) -> Order {
     let [a, b, c, d] = mask.to_le_bytes();
     [1, column, 0, 0, a, b, c, d]
 }
 
-fn back(m: u8) -> Order {
+pub(super) fn back(m: u8) -> Order {
     [3, m, 0, 0, 0, 0, 0, 0]
 }
 
@@ -23,7 +23,14 @@ fn shown(refusal: u8, depth: usize, domains: &[u32]) -> Shown {
         refusal,
         depth,
         domains: domains.to_vec(),
+        outcome: Outcome::NoFinish,
     }
+}
+
+/// The same, with the full set that a finish found.
+fn found(shown: Shown, set: &[u8]) -> Shown {
+    let outcome = Outcome::Found(set.to_vec());
+    Shown { outcome, ..shown }
 }
 
 /// What stands after the whole list, over H.
@@ -37,7 +44,7 @@ fn refusal(orders: &[Order]) -> u8 {
     last(orders).refusal
 }
 
-fn sheet(columns: &[u8], rows: &[&[u8]]) -> Sheet {
+pub(super) fn sheet(columns: &[u8], rows: &[&[u8]]) -> Sheet {
     Sheet {
         columns: columns.to_vec(),
         rows: rows.iter().map(|row| row.to_vec()).collect(),
@@ -79,12 +86,22 @@ fn k5_narrow_width_2() {
     assert_eq!(last(&[narrow(WIDTH, 2)]), shown(0, 0, &[2, 3, 3]));
 }
 
+#[test]
+fn k6_finish_at_opening() {
+    let opening = shown(0, 0, &[7, 3, 3]);
+    assert_eq!(last(&[FINISH]), found(opening, &[0, 0, 0]));
+}
+
 /// Each value has its row in each sheet, though no full set exists.
 #[test]
 fn k7_three_columns_that_differ() {
     let pairs: [[u8; 2]; 3] = [[0, 1], [0, 2], [1, 2]];
-    let sheets = pairs.map(|pair| sheet(&pair, &[&[0, 1], &[1, 0]]));
-    assert_eq!(opening(&[2, 2, 2], sheets.to_vec()), [3, 3, 3]);
+    let sheets = pairs.map(|pair| sheet(&pair, &[&[0, 1], &[1, 0]])).to_vec();
+    assert_eq!(opening(&[2, 2, 2], sheets.clone()), [3, 3, 3]);
+    let counts = vec![2, 2, 2];
+    let finished = session(&Book { counts, sheets }, &[FINISH]).pop().unwrap();
+    assert_eq!(finished.domains, [3, 3, 3]);
+    assert_eq!(finished.outcome, Outcome::None);
 }
 
 #[test]
@@ -103,8 +120,7 @@ fn k10_narrow_width_8() {
     assert_eq!(last(&[narrow(WIDTH, 8)]), shown(22, 0, &[7, 3, 3]));
 }
 
-/// "On H with mark, narrow board 1, finish, back 1, back 1, narrow width 4", without what the
-/// finish finds.
+/// "On H with mark, narrow board 1, finish, back 1, back 1, narrow width 4"
 #[test]
 fn the_example_run() {
     let book = decode(&harbour()).unwrap();
@@ -120,7 +136,7 @@ fn the_example_run() {
         shown(0, 0, &[7, 3, 3]),
         shown(0, 1, &[7, 3, 3]),
         shown(0, 1, &[3, 1, 1]),
-        shown(0, 1, &[3, 1, 1]),
+        found(shown(0, 1, &[3, 1, 1]), &[0, 0, 0]),
         shown(0, 0, &[7, 3, 3]),
         shown(24, 0, &[7, 3, 3]),
         shown(0, 0, &[4, 2, 2]),
@@ -174,7 +190,9 @@ fn refusals_of_the_dead() {
     assert_eq!(last(&[dead, narrow(3, 0)]).refusal, 21);
     assert_eq!(last(&[dead, back(1)]).refusal, 24);
     assert_eq!(last(&[dead, MARK, back(1)]), shown(0, 0, &[0, 0, 0]));
-    assert_eq!(last(&[dead, FINISH]).refusal, 0);
+    let finished = last(&[dead, FINISH]);
+    assert_eq!(finished.refusal, 0);
+    assert_eq!(finished.outcome, Outcome::None, "its finish says none");
 }
 
 #[test]

@@ -1,0 +1,61 @@
+//! The 72 bytes of an answer.
+
+use crate::orders::value_bit;
+use crate::session::{Outcome, Shown};
+use crate::Book;
+
+/// "Status: 0 dead; 2 decided, each column holds one value; 1 open, otherwise." Dead is that "every
+/// domain is empty"; settled domains are never empty in part.
+pub fn status(domains: &[u32]) -> u8 {
+    if domains.iter().all(|&domain| domain == 0) {
+        0
+    } else if domains.iter().all(|domain| domain.count_ones() == 1) {
+        2
+    } else {
+        1
+    }
+}
+
+/// "Sheet s is *done* when the session isn't dead and at most one column of s holds more than one
+/// value … The done byte has bit s for sheet s."
+pub fn done(book: &Book, domains: &[u32]) -> u8 {
+    let mut done = 0;
+    for (s, sheet) in book.sheets.iter().enumerate() {
+        let columns = sheet.columns.iter();
+        let held = columns.map(|&column| domains[usize::from(column)].count_ones());
+        let open = held.filter(|&values| values > 1).count();
+        if status(domains) != 0 && open <= 1 {
+            done |= 1 << s;
+        }
+    }
+    done
+}
+
+/// "byte 0 the refusal or 0; byte 1 status; byte 2 depth; byte 3 zero, or for an accepted finish 1
+/// found, 2 none; byte 4 done; bytes 5 to 7 zero; bytes 8 to 71 sixteen domains of 32 bits, zero
+/// from C on."
+pub(crate) fn answer(book: &Book, shown: &Shown) -> [u8; 72] {
+    let mut bytes = [0; 72];
+    bytes[0] = shown.refusal;
+    bytes[1] = status(&shown.domains);
+    bytes[2] = shown.depth as u8;
+    bytes[3] = match shown.outcome {
+        Outcome::NoFinish => 0,
+        Outcome::Found(_) => 1,
+        Outcome::None => 2,
+    };
+    bytes[4] = done(book, &shown.domains);
+    for (column, domain) in domains_shown(shown).into_iter().enumerate() {
+        bytes[8 + 4 * column..12 + 4 * column].copy_from_slice(&domain.to_le_bytes());
+    }
+    bytes
+}
+
+/// "An accepted finish puts the full set there, one bit for each column, or zeros for none."
+fn domains_shown(shown: &Shown) -> Vec<u32> {
+    match &shown.outcome {
+        Outcome::NoFinish => shown.domains.clone(),
+        Outcome::Found(set) => set.iter().map(|&value| value_bit(value)).collect(),
+        Outcome::None => vec![0; shown.domains.len()],
+    }
+}

@@ -22,17 +22,39 @@
 //! }
 //! ```
 //!
+//! [`run`] hands a list of [`Order`]s over a book to it: the [`Answers`] are read from the space that
+//! the host has lent, one for the opening and one for each order.
+//!
+//! ```
+//! # let bytes = conformance::write(&conformance::harbour());
+//! use fitting::{Order, Status};
+//!
+//! let orders = [Order::Narrow { column: 0, mask: 0b100 }, Order::Finish];
+//! let mut space = [0; fitting::space_for(2)];
+//! for answer in fitting::run(&bytes, &orders, &mut space)? {
+//!     let domains: Vec<u32> = answer.domains().collect();
+//!     println!("{:?} {:?} {domains:?}", answer.refusal(), answer.status());
+//! }
+//! # Ok::<(), fitting::Refusal>(())
+//! ```
+//!
 //! Nothing is copied and nothing is checked twice: the library's answer is a theorem about its
 //! code, so an accepted book is read as it lies. No input makes any function here panic.
 
 #![deny(unsafe_code)]
 
+mod answer;
 mod book;
 mod library;
+mod order;
 mod refusal;
+mod run;
 
+pub use answer::{Answer, Answers, Outcome, Status};
 pub use book::{Book, Sheet};
+pub use order::{Order, OrderRefusal};
 pub use refusal::Refusal;
+pub use run::{run, run_number, space_for, MOST_ORDERS};
 
 /// Checks a book, and gives a view of it if it is accepted.
 ///

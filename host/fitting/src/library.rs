@@ -5,6 +5,17 @@
 unsafe extern "C" {
     /// `uint64_t fitting_check(const uint8_t *book, size_t len)`
     fn fitting_check(book: *const u8, len: usize) -> u64;
+
+    /// `uint64_t fitting_run(const uint8_t *book, size_t book_len, const uint8_t *orders,
+    /// size_t orders_len, uint8_t *answers, size_t answers_len)`
+    fn fitting_run(
+        book: *const u8,
+        book_len: usize,
+        orders: *const u8,
+        orders_len: usize,
+        answers: *mut u8,
+        answers_len: usize,
+    ) -> u64;
 }
 
 /// The library's number for these bytes.
@@ -12,4 +23,21 @@ pub(crate) fn check(book: &[u8]) -> u64 {
     // SAFETY: the library takes any bytes. It reads only the `len` bytes at `book`, which the slice
     // keeps readable and unchanged during the call; it writes none of them and keeps no pointer.
     unsafe { fitting_check(book.as_ptr(), book.len()) }
+}
+
+/// The library's number for these orders over this book, and its answers in the space.
+pub(crate) fn run(book: &[u8], orders: &[u8], answers: &mut [u8]) -> u64 {
+    // SAFETY: the library takes any bytes. It reads only those of the two slices, which stay
+    // readable and unchanged during the call, and writes only into the space, which is lent to it
+    // alone and so lies apart from both; it keeps no pointer.
+    unsafe {
+        fitting_run(
+            book.as_ptr(),
+            book.len(),
+            orders.as_ptr(),
+            orders.len(),
+            answers.as_mut_ptr(),
+            answers.len(),
+        )
+    }
 }

@@ -1,4 +1,4 @@
-//! Why a book is refused, and where.
+//! Why a book, or a run, is refused, and where.
 
 use std::error::Error;
 use std::fmt;
@@ -6,7 +6,7 @@ use std::fmt;
 /// The refusal number is above the low 16 bits, the place is in them.
 const PLACES: u64 = 65_536;
 
-/// Why a book is refused: the lowest of the causes that apply, with the first place of it.
+/// Why a book or a run is refused: the lowest of the causes that apply, with the first place of it.
 ///
 /// ```
 /// use fitting::Refusal;
@@ -41,7 +41,14 @@ pub enum Refusal {
         /// The first such block; the head is block 0.
         block: u16,
     },
-    /// A refusal that has no name here. The check of a book never gives one.
+    /// 10: the orders aren't a multiple of 8 bytes, or more than 256 of them.
+    Orders,
+    /// 11: the space for the answers is too short.
+    Space {
+        /// The bytes that the answers need.
+        needed: u16,
+    },
+    /// A refusal that has no name here. Neither call ever gives one.
     Other {
         /// The refusal number.
         number: u64,
@@ -68,11 +75,13 @@ impl Refusal {
             (3, offset) => Some(Self::Head { offset }),
             (4, needed) => Some(Self::Blocks { needed }),
             (5, block) => Some(Self::Row { block }),
+            (10, 0) => Some(Self::Orders),
+            (11, needed) => Some(Self::Space { needed }),
             (number, place) => Some(Self::Other { number, place }),
         }
     }
 
-    /// The refusal number: 1 to 5 for a book.
+    /// The refusal number: 1 to 5 for a book, and 10 or 11 too for a run.
     pub fn number(&self) -> u64 {
         match *self {
             Self::Length => 1,
@@ -80,17 +89,20 @@ impl Refusal {
             Self::Head { .. } => 3,
             Self::Blocks { .. } => 4,
             Self::Row { .. } => 5,
+            Self::Orders => 10,
+            Self::Space { .. } => 11,
             Self::Other { number, .. } => number,
         }
     }
 
-    /// The place: a block, an offset in the head or a number of blocks, by the kind of refusal.
+    /// The place: a block, an offset in the head, a number of blocks or of bytes, by the kind of
+    /// refusal.
     pub fn place(&self) -> u16 {
         match *self {
-            Self::Length => 0,
+            Self::Length | Self::Orders => 0,
             Self::Check { block } | Self::Row { block } => block,
             Self::Head { offset } => offset,
-            Self::Blocks { needed } => needed,
+            Self::Blocks { needed } | Self::Space { needed } => needed,
             Self::Other { place, .. } => place,
         }
     }
@@ -108,6 +120,11 @@ impl fmt::Display for Refusal {
                 f,
                 "in block {block} a row value is too large or a byte that must be zero isn't"
             ),
+            Self::Orders => write!(
+                f,
+                "the orders aren't a multiple of 8 bytes or exceed 2,048 bytes"
+            ),
+            Self::Space { needed } => write!(f, "the answers need {needed} bytes"),
             Self::Other { place, .. } => write!(f, "place {place}"),
         }
     }
@@ -132,7 +149,16 @@ mod tests {
 
     #[test]
     fn only_unnamed_numbers_are_other() {
-        for (number, place, named) in [(1, 0, true), (1, 1, false), (5, 9, true), (6, 0, false)] {
+        for (number, place, named) in [
+            (1, 0, true),
+            (1, 1, false),
+            (5, 9, true),
+            (6, 0, false),
+            (10, 0, true),
+            (10, 1, false),
+            (11, 72, true),
+            (12, 0, false),
+        ] {
             let refusal = Refusal::from_number(number * PLACES + place).unwrap();
             assert_eq!(!matches!(refusal, Refusal::Other { .. }), named);
         }
@@ -150,6 +176,10 @@ mod tests {
         let row =
             "refusal 5: in block 7 a row value is too large or a byte that must be zero isn't";
         assert_eq!(sentence(5 * PLACES + 7), row);
+        let orders = "refusal 10: the orders aren't a multiple of 8 bytes or exceed 2,048 bytes";
+        assert_eq!(sentence(10 * PLACES), orders);
+        let space = "refusal 11: the answers need 18504 bytes";
+        assert_eq!(sentence(11 * PLACES + 18_504), space);
         assert_eq!(sentence(9 * PLACES + 2), "refusal 9: place 2");
     }
 }

@@ -1,0 +1,70 @@
+//! Runs orders over a book file and prints a line for each answer:
+//! `cargo run --release -p fitting --example run -- books/harbour.bin mark narrow 2 1 finish back 1`.
+//! The exit status is 0 if the run is accepted, 1 if it is not, 2 if the words can't be read.
+
+use fitting::{Order, Outcome};
+use std::env;
+use std::fs;
+use std::process::ExitCode;
+
+fn main() -> ExitCode {
+    let mut words = env::args().skip(1);
+    let Some(file) = words.next() else {
+        eprintln!("name a book file, then orders: narrow COLUMN MASK, mark, back MARK, finish");
+        return ExitCode::from(2);
+    };
+    let Some(orders) = orders(words) else {
+        eprintln!("an order is narrow COLUMN MASK, mark, back MARK or finish");
+        return ExitCode::from(2);
+    };
+    match fs::read(&file).map(|book| lines(&book, &orders)) {
+        Ok(Ok(lines)) => {
+            print!("{lines}");
+            ExitCode::SUCCESS
+        }
+        Ok(Err(refusal)) => {
+            println!("{refusal}");
+            ExitCode::FAILURE
+        }
+        Err(error) => {
+            println!("{file}: {error}");
+            ExitCode::FAILURE
+        }
+    }
+}
+
+fn orders(mut words: impl Iterator<Item = String>) -> Option<Vec<Order>> {
+    let mut orders = Vec::new();
+    while let Some(word) = words.next() {
+        let mut number = || words.next()?.parse().ok();
+        orders.push(match word.as_str() {
+            "narrow" => Order::Narrow {
+                column: u8::try_from(number()?).ok()?,
+                mask: number()?,
+            },
+            "mark" => Order::Mark,
+            "back" => Order::Back {
+                mark: u8::try_from(number()?).ok()?,
+            },
+            "finish" => Order::Finish,
+            _ => return None,
+        });
+    }
+    Some(orders)
+}
+
+fn lines(book: &[u8], orders: &[Order]) -> Result<String, fitting::Refusal> {
+    let mut space = vec![0; fitting::space_for(orders.len())];
+    let mut lines = String::new();
+    for (i, answer) in fitting::run(book, orders, &mut space)?.enumerate() {
+        let what = match (answer.refusal(), answer.outcome()) {
+            (Some(refusal), _) => refusal.to_string(),
+            (None, Some(Outcome::Found)) => "found".to_string(),
+            (None, Some(Outcome::None)) => "no full set".to_string(),
+            (None, None) => format!("{:?}, depth {}", answer.status(), answer.depth()),
+        };
+        let domains: Vec<String> = answer.domains().map(|mask| format!("{mask:b}")).collect();
+        lines += &format!("{i}: {what}: {}\n", domains.join(" "));
+    }
+    Ok(lines)
+}

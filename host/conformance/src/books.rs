@@ -146,6 +146,27 @@ pub(crate) fn ring(random: &mut Random) -> (Book, Vec<u8>) {
     (Book { counts, sheets }, vec![held as u8; columns])
 }
 
+/// Columns of two values or three, and sheets of two columns whose values must differ: every value
+/// stays, and only a search tells whether there is a full set. With it, any value of each column.
+pub(crate) fn differing(random: &mut Random) -> (Book, Vec<u8>) {
+    let columns = random.within(3..=6);
+    let count = random.within(2..=3);
+    let rows: Vec<_> = (0..count * count)
+        .map(|number| [number / count, number % count])
+        .filter(|[one, other]| one != other)
+        .collect();
+    let mut sheets = Vec::new();
+    for _ in 0..random.within(3..=8) {
+        let first = random.below(columns - 1);
+        let second = random.within(first + 1..=columns - 1);
+        sheets.push(pairs(random, first, second, rows.clone(), 1));
+    }
+    let counts = vec![count as u8; columns];
+    let book = Book { counts, sheets };
+    let aim = any_set(random, &book);
+    (book, aim)
+}
+
 /// A sheet of two columns that has each of these rows so many times, in any order.
 fn pairs(
     random: &mut Random,

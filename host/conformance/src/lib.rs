@@ -2,27 +2,32 @@
 //!
 //! [`write()`] turns a described [`Book`] into bytes with right checks; [`Region`] and [`Damage`]
 //! spoil them; [`Case`] is one seeded input; [`agreed`] compares the two answers. [`Run`] is a
-//! seeded book with a list of orders. The tests of this crate are the comparison itself.
+//! seeded book with a list of orders and a space for the answers; [`agreed_run`] compares the two
+//! runs of it. The tests of this crate are the comparison itself.
 
 mod books;
 mod case;
+mod compare;
 mod damage;
 mod orders;
 mod random;
 mod region;
 mod run;
+mod seen;
 mod steps;
 mod tally;
 mod write;
 
 pub use books::{any_book, harbour, plant, regular, tiny, BLOCK_EDGES};
 pub use case::{Case, Hit, Mend, Story};
+pub use compare::agreed_run;
 pub use damage::Damage;
 pub use orders::{all_values, any_list, back, narrow, FINISH, MARK};
 pub use random::Random;
 pub use reference::{Book, Order, Sheet};
 pub use region::Region;
-pub use run::{Run, Shape};
+pub use run::{space_for, Run, Shape};
+pub use seen::Seen;
 pub use steps::Steps;
 pub use tally::{Outcomes, Places};
 pub use write::{mend, write, BLOCK, LONGEST, ROWS_OF_A_BLOCK};

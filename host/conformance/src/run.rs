@@ -1,7 +1,7 @@
-//! One seeded input of a session: a book and a list of orders.
+//! One seeded input of a run: a book, a list of orders, and a space for the answers.
 
-use crate::orders::any_list;
-use crate::{any_book, books, plant, write, Book, Case, Random};
+use crate::orders::{any_list, narrow, FINISH};
+use crate::{any_book, books, plant, write, Book, Case, Order, Random};
 use std::ops::RangeInclusive;
 
 /// What kind of book a run has.
@@ -13,6 +13,8 @@ pub enum Shape {
     Small,
     /// Sheets that hand on each lost value in a ring, so that propagation runs long.
     Ring,
+    /// Sheets that make two columns differ, so that a full set takes a search or isn't there.
+    Differing,
     /// Anything that the format has.
     Any,
     /// Sixteen columns of 32 values, eight sheets of 508 rows.
@@ -23,17 +25,23 @@ pub enum Shape {
 
 impl Shape {
     /// All of them.
-    pub const ALL: [Self; 6] = [
+    pub const ALL: [Self; 7] = [
         Self::Tiny,
         Self::Small,
         Self::Ring,
+        Self::Differing,
         Self::Any,
         Self::Largest,
         Self::Damaged,
     ];
 }
 
-/// One seeded input of a session.
+/// The bytes that the answers to these orders need, whole orders or not.
+pub fn space_for(orders: &[u8]) -> usize {
+    72 * (orders.len() / 8 + 1)
+}
+
+/// One seeded input of a run.
 #[derive(Clone, Debug)]
 pub struct Run {
     /// What kind of book it is.
@@ -42,6 +50,8 @@ pub struct Run {
     pub book: Vec<u8>,
     /// The bytes of the orders: most often whole orders, and no more than 256.
     pub orders: Vec<u8>,
+    /// The bytes of the space for the answers: most often as many as they need.
+    pub space: usize,
 }
 
 impl Run {
@@ -51,8 +61,9 @@ impl Run {
         let shape = match random.below(40) {
             0..=9 => Shape::Tiny,
             10..=23 => Shape::Small,
-            24..=29 => Shape::Ring,
-            30..=35 => Shape::Any,
+            24..=28 => Shape::Ring,
+            29..=31 => Shape::Differing,
+            32..=35 => Shape::Any,
             36..=37 => Shape::Largest,
             _ => Shape::Damaged,
         };
@@ -60,23 +71,26 @@ impl Run {
             Shape::Tiny => planted(random, books::tiny_book, 0..=3),
             Shape::Small => planted(random, books::small_book, 1..=6),
             Shape::Ring => books::ring(random),
+            Shape::Differing => books::differing(random),
             Shape::Any | Shape::Damaged => planted(random, any_book, 0..=8),
             Shape::Largest => planted(random, books::largest_book, 0..=8),
         };
         let length = length(random, shape);
-        let mut orders = any_list(random, &book, &aim, length).concat();
-        if random.once_in(50) {
-            let length = orders.len() + random.within(1..=14);
-            orders.resize(length.saturating_sub(7), 0);
+        let mut list = any_list(random, &book, &aim, length);
+        if shape == Shape::Largest {
+            finish_late(random, &mut list, &aim);
         }
+        let orders = list_bytes(random, &list);
         let book = match shape {
             Shape::Damaged => Case::new(random.bits()).bytes,
             _ => write(&book),
         };
+        let space = space(random, &orders);
         Self {
             shape,
             book,
             orders,
+            space,
         }
     }
 }
@@ -97,9 +111,47 @@ fn planted(
     (book, set)
 }
 
-/// How many orders: most often few, since each is compared.
+/// The bytes of these orders, at times some more or fewer.
+fn list_bytes(random: &mut Random, list: &[Order]) -> Vec<u8> {
+    let mut orders = list.concat();
+    if random.once_in(50) {
+        let length = orders.len() + random.within(1..=14);
+        orders.resize(length.saturating_sub(7), 0);
+    }
+    orders
+}
+
+/// A search through the largest books may take hours, so they are finished, if at all, when few
+/// columns are left open.
+fn finish_late(random: &mut Random, list: &mut Vec<Order>, aim: &[u8]) {
+    for order in list.iter_mut().filter(|order| **order == FINISH) {
+        *order = narrow(0, u32::MAX);
+    }
+    if random.once_in(3) {
+        let open = random.within(0..=5);
+        let mut columns: Vec<u8> = (0..16).collect();
+        random.shuffle(&mut columns);
+        let narrows = columns[open..].iter();
+        list.extend(narrows.map(|&column| narrow(column, 1 << aim[usize::from(column)])));
+        list.push(FINISH);
+    }
+}
+
+/// As many bytes as the answers need, or one too few, or any other number.
+fn space(random: &mut Random, orders: &[u8]) -> usize {
+    let needed = space_for(orders);
+    match random.below(32) {
+        0 => needed - 1,
+        1 => random.below(needed),
+        2 => needed + 1,
+        3..=5 => needed + random.within(1..=200),
+        _ => needed,
+    }
+}
+
+/// How many orders: most often few, since the reference is slow.
 fn length(random: &mut Random, shape: Shape) -> usize {
-    // The reference is slow on the largest books.
+    // It is slowest on the largest books.
     let rare = if shape == Shape::Largest { 4 } else { 1 };
     if random.once_in(30 * rare) {
         random.pick(&[255, 256, 256, 257, 258, 300])

@@ -1,9 +1,9 @@
-//! The library reads only the bytes that it is lent, and writes none but the domains.
+//! The library reads only the bytes that it is lent, and writes none but the answers.
 
 #![allow(unsafe_code)]
 #![cfg(all(target_os = "linux", target_arch = "x86_64"))]
 
-use conformance::{harbour, narrow, regular, write, Case, Run, MARK};
+use conformance::{harbour, narrow, regular, space_for, write, Case, Run, FINISH, MARK};
 use std::ffi::{c_int, c_void};
 use std::ptr;
 
@@ -13,8 +13,8 @@ const READ: c_int = 1;
 const READ_AND_WRITE: c_int = 3;
 const PRIVATE_AND_ANONYMOUS: c_int = 0x22;
 
-/// What stands in the domains before a call.
-const BEFORE: u32 = 0xA5C3_3C5A;
+/// What every byte of the space is before a call.
+const BEFORE: u8 = 0xA5;
 
 unsafe extern "C" {
     fn mmap(
@@ -76,19 +76,57 @@ impl Guarded {
         self.lend(book, at_start, fitting::check_number)
     }
 
-    /// Sixteen numbers at the very start, or else at the very end, of the middle pages, and what is
-    /// made while they may be written.
-    fn lend_domains(&self, at_start: bool, make: impl FnOnce(&mut [u32; 16])) -> [u32; 16] {
-        let room = self.pages * PAGE - size_of::<[u32; 16]>();
+    /// So many bytes at the very start, or else at the very end, of the middle pages, after
+    /// something has been done with them.
+    fn lend_space(&self, length: usize, at_start: bool, make: impl FnOnce(&mut [u8])) -> Vec<u8> {
+        let room = self.pages * PAGE - length;
         let place = self.middle().wrapping_add(if at_start { 0 } else { room });
         self.protect(READ_AND_WRITE);
-        // SAFETY: the place has room for the numbers, on their boundary, and any bits are numbers;
-        // nothing else points there meanwhile.
-        let domains = unsafe { &mut *place.cast::<[u32; 16]>() };
-        domains.fill(BEFORE);
-        make(domains);
-        *domains
+        // SAFETY: the place has room for the bytes and may be written, and nothing else points
+        // there meanwhile.
+        let space = unsafe { std::slice::from_raw_parts_mut(place, length) };
+        space.fill(BEFORE);
+        make(space);
+        space.to_vec()
     }
+}
+
+/// Memory for a book, for orders and for answers, each guarded.
+struct Lent {
+    book: Guarded,
+    orders: Guarded,
+    space: Guarded,
+}
+
+impl Lent {
+    fn new() -> Self {
+        let [book, orders, space] = [5, 1, 6].map(Guarded::new);
+        Self {
+            book,
+            orders,
+            space,
+        }
+    }
+
+    /// The number and the space that the library gives, all lent at the start or at the end.
+    fn run(&self, book: &[u8], orders: &[u8], space: usize, at_start: bool) -> (u64, Vec<u8>) {
+        let mut number = 0;
+        let space = self.space.lend_space(space, at_start, |space| {
+            number = self.book.lend(book, at_start, |book| {
+                self.orders.lend(orders, at_start, |orders| {
+                    fitting::run_number(book, orders, space)
+                })
+            });
+        });
+        (number, space)
+    }
+}
+
+/// The number and the space that the reference gives.
+fn reference_run(book: &[u8], orders: &[u8], space: usize) -> (u64, Vec<u8>) {
+    let mut space = vec![BEFORE; space];
+    let number = reference::run(book, orders, &mut space);
+    (number, space)
 }
 
 impl Drop for Guarded {
@@ -123,41 +161,33 @@ fn no_step_outside_of_seeded_books() {
 }
 
 #[test]
-fn no_step_outside_of_seeded_sessions() {
-    let [books, lists, domains] = [5, 1, 1].map(Guarded::new);
+fn no_step_outside_of_seeded_runs() {
+    let lent = Lent::new();
     for seed in 0..10_000 {
-        let Run { book, orders, .. } = Run::new(seed);
-        let mut expected = [BEFORE; 16];
-        let number = reference::probe(&book, &orders, &mut expected);
+        let run = Run::new(seed);
+        let expected = reference_run(&run.book, &run.orders, run.space);
         for at_start in [true, false] {
-            let written = domains.lend_domains(at_start, |domains| {
-                let probed = books.lend(&book, at_start, |book| {
-                    lists.lend(&orders, at_start, |orders| {
-                        probe::probe(book, orders, domains)
-                    })
-                });
-                assert_eq!(probed, number, "seed {seed}");
-            });
-            assert_eq!(written, expected, "seed {seed}");
+            let ran = lent.run(&run.book, &run.orders, run.space, at_start);
+            assert!(ran == expected, "seed {seed}");
         }
     }
 }
 
-/// Lists whose end is the page's, of every length.
+/// Lists whose end is the page's, of every length, and spaces that are exact, or short by one.
 #[test]
 fn no_step_outside_of_any_list() {
-    let [books, lists] = [5, 1].map(Guarded::new);
+    let lent = Lent::new();
     let book = write(&harbour());
-    let orders = [MARK, narrow(2, 1)].concat().repeat(130);
+    let orders = [MARK, narrow(2, 1), FINISH].concat().repeat(90);
     for length in 0..=orders.len() {
-        for at_start in [true, false] {
-            let [mut probed, mut expected] = [[BEFORE; 16]; 2];
-            let list = &orders[..length];
-            let number = books.lend(&book, at_start, |book| {
-                lists.lend(list, at_start, |list| probe::probe(book, list, &mut probed))
-            });
-            assert_eq!(number, reference::probe(&book, list, &mut expected));
-            assert_eq!(probed, expected);
+        let list = &orders[..length];
+        let needed = space_for(list);
+        for space in [needed - 1, needed] {
+            let expected = reference_run(&book, list, space);
+            for at_start in [true, false] {
+                let ran = lent.run(&book, list, space, at_start);
+                assert!(ran == expected, "{length} bytes, space {space}");
+            }
         }
     }
 }

@@ -20,7 +20,7 @@ pub use book::{decode, Book, Sheet};
 pub use closure::closure;
 pub use orders::Order;
 pub use run::{printed, run};
-pub use session::{probe, session, Outcome, Shown};
+pub use session::{session, Outcome, Shown};
 
 /// "A book is 1 to 33 blocks of 512 bytes."
 const BLOCK: usize = 512;

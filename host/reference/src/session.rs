@@ -3,7 +3,7 @@
 use crate::closure::closure;
 use crate::finish::first_full_set;
 use crate::orders::{allowed, depth, refusal, stand, Entry, Order};
-use crate::{check, decode, Book};
+use crate::Book;
 
 /// What can be seen of a session after an order, or at the opening.
 #[derive(Clone, Debug, PartialEq, Eq)]
@@ -59,22 +59,4 @@ fn show(book: &Book, trail: &[Entry], refusal: u8, finish: bool) -> Shown {
         domains,
         outcome,
     }
-}
-
-/// What the call `fitting_probe` gives, which is there for tests only: the refusal of the book, or
-/// that of the orders ("10 if the orders aren't a multiple of 8 bytes or exceed 2,048 bytes, place
-/// 0"), with the domains left alone; else the refusal of the last order × 256 + the depth, and the
-/// current domains, "zero from C on".
-pub fn probe(book: &[u8], orders: &[u8], domains: &mut [u32; 16]) -> u64 {
-    let Some(described) = decode(book) else {
-        return check(book);
-    };
-    if !orders.len().is_multiple_of(8) || orders.len() > 2_048 {
-        return 10 * 65_536;
-    }
-    let shown = session(&described, orders.as_chunks().0);
-    let last = &shown[shown.len() - 1];
-    domains.fill(0);
-    domains[..last.domains.len()].copy_from_slice(&last.domains);
-    u64::from(last.refusal) * 256 + last.depth as u64
 }

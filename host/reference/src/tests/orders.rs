@@ -1,7 +1,7 @@
 //! Orders on document 01's books, worked by hand.
 
-use super::{changed, harbour, refused};
-use crate::{closure, decode, probe, session, Book, Order, Outcome, Sheet, Shown};
+use super::harbour;
+use crate::{closure, decode, session, Book, Order, Outcome, Sheet, Shown};
 
 pub(super) const MARK: Order = [2, 0, 0, 0, 0, 0, 0, 0];
 pub(super) const FINISH: Order = [4, 0, 0, 0, 0, 0, 0, 0];
@@ -259,35 +259,4 @@ fn back_leaves_what_stands_before_the_bar() {
     let to = |m| last(&[&orders[..], &[back(m)]].concat());
     assert_eq!(to(2), shown(0, 1, &[3, 3, 2]));
     assert_eq!(to(1), shown(0, 0, &[3, 3, 3]));
-}
-
-#[test]
-fn the_probe_on_harbour() {
-    let book = harbour();
-    let probed = |book: &[u8], orders: &[u8]| {
-        let mut domains = [9; 16];
-        let number = probe(book, orders, &mut domains);
-        (number, domains)
-    };
-    let mut domains = [0; 16];
-    domains[..3].copy_from_slice(&[7, 3, 3]);
-    assert_eq!(probed(&book, &[]), (0, domains));
-    assert_eq!(probed(&book, &[MARK; 256].concat()).0, 23 * 256 + 16);
-    assert_eq!(probed(&book, &narrow(WIDTH, 8)), (22 * 256, domains));
-    domains[..3].copy_from_slice(&[3, 1, 1]);
-    assert_eq!(
-        probed(&book, &[MARK, narrow(BOARD, 1)].concat()),
-        (1, domains)
-    );
-
-    let untouched = [9; 16];
-    let too_many = probed(&book, &[MARK; 257].concat());
-    assert_eq!(too_many, (refused(10, 0), untouched));
-    for length in [1, 7, 9, 2_047, 2_049] {
-        let ragged = probed(&book, &vec![0; length]);
-        assert_eq!(ragged, (refused(10, 0), untouched));
-    }
-    let no_book = changed(&[(4, 0)]);
-    assert_eq!(probed(&no_book, &[]), (refused(3, 4), untouched));
-    assert_eq!(probed(&no_book, &[1]), (refused(3, 4), untouched));
 }

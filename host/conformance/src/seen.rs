@@ -1,0 +1,61 @@
+//! An answer, read from its 72 bytes.
+
+/// What one answer shows.
+#[derive(Clone, Copy, Debug, PartialEq, Eq)]
+pub struct Seen {
+    /// The refusal of the order, or 0.
+    pub refusal: u8,
+    /// 0 dead, 1 open, 2 decided.
+    pub status: u8,
+    /// The number of marks.
+    pub depth: u8,
+    /// 0, or for an accepted finish 1 found, 2 none.
+    pub outcome: u8,
+    /// Bit s for sheet s.
+    pub done: u8,
+    /// What stands in the place of the sixteen domains.
+    pub domains: [u32; 16],
+}
+
+impl Seen {
+    /// Reads an answer.
+    pub fn read(answer: &[u8; 72]) -> Self {
+        let [refusal, status, depth, outcome, done, zeros @ ..] =
+            *answer.first_chunk::<8>().unwrap();
+        assert_eq!(zeros, [0; 3], "bytes 5 to 7 of an answer");
+        let mut domains = [0; 16];
+        for (domain, &bytes) in domains.iter_mut().zip(answer[8..].as_chunks().0) {
+            *domain = u32::from_le_bytes(bytes);
+        }
+        Self {
+            refusal,
+            status,
+            depth,
+            outcome,
+            done,
+            domains,
+        }
+    }
+
+    /// Reads every answer of a space that has nothing after them.
+    pub fn read_all(space: &[u8]) -> Vec<Self> {
+        let (answers, rest) = space.as_chunks();
+        assert!(rest.is_empty());
+        answers.iter().map(Self::read).collect()
+    }
+
+    /// Whether the session is dead.
+    pub fn is_dead(&self) -> bool {
+        self.status == 0
+    }
+
+    /// How many values the domains have together.
+    pub fn values(&self) -> usize {
+        values(&self.domains)
+    }
+}
+
+/// How many values these domains have together.
+pub(crate) fn values(domains: &[u32; 16]) -> usize {
+    domains.iter().map(|d| d.count_ones() as usize).sum()
+}

@@ -1,0 +1,251 @@
+//! The papers' own examples as whole runs: K1 to K10, the printed run, and document 002's table.
+
+use conformance::{
+    agreed_run, back, harbour, narrow, space_for, write, Book, Order, Seen, Sheet, FINISH, MARK,
+};
+
+const WIDTH: u8 = 0;
+const MOTOR: u8 = 1;
+const BOARD: u8 = 2;
+
+/// The number of accepted orders, and every answer, as both versions give them.
+fn run(book: &Book, orders: &[Order]) -> (u64, Vec<Seen>) {
+    let orders = orders.concat();
+    let (number, space) = agreed_run(&write(book), &orders, space_for(&orders));
+    (number, Seen::read_all(&space))
+}
+
+/// Every answer of a run whose orders are all accepted.
+fn answers(book: &Book, orders: &[Order]) -> Vec<Seen> {
+    let (number, answers) = run(book, orders);
+    assert_eq!(number, orders.len() as u64);
+    answers
+}
+
+/// An accepted order's answer at depth 0, or the opening: status, done, domains.
+fn shows(status: u8, done: u8, domains: &[u32]) -> Seen {
+    let mut all = [0; 16];
+    all[..domains.len()].copy_from_slice(domains);
+    Seen {
+        refusal: 0,
+        status,
+        depth: 0,
+        outcome: 0,
+        done,
+        domains: all,
+    }
+}
+
+fn book(counts: &[u8], sheets: &[(&[u8], &[&[u8]])]) -> Book {
+    let sheet = |&(columns, rows): &(&[u8], &[&[u8]])| Sheet {
+        columns: columns.to_vec(),
+        rows: rows.iter().map(|row| row.to_vec()).collect(),
+    };
+    Book {
+        counts: counts.to_vec(),
+        sheets: sheets.iter().map(sheet).collect(),
+    }
+}
+
+#[test]
+fn k1_to_k5_on_harbour() {
+    let opening = shows(1, 0, &[7, 3, 3]);
+    let k3 = shows(1, 3, &[3, 1, 1]);
+    assert_eq!(answers(&harbour(), &[]), [opening], "K1");
+    for (orders, then) in [
+        (&[narrow(WIDTH, 4)][..], &[shows(2, 3, &[4, 2, 2])][..]),
+        (&[narrow(BOARD, 1)], &[k3]),
+        (
+            &[narrow(BOARD, 1), narrow(MOTOR, 2)],
+            &[k3, shows(0, 0, &[])],
+        ),
+        (&[narrow(WIDTH, 2)], &[shows(1, 1, &[2, 3, 3])]),
+    ] {
+        let expected = [&[opening], then].concat();
+        assert_eq!(answers(&harbour(), orders), expected);
+    }
+}
+
+#[test]
+fn k6_finish_at_opening() {
+    let found = Seen {
+        outcome: 1,
+        ..shows(1, 0, &[1, 1, 1])
+    };
+    let answers = answers(&harbour(), &[FINISH]);
+    assert_eq!(answers, [shows(1, 0, &[7, 3, 3]), found]);
+}
+
+#[test]
+fn k7_three_columns_that_differ() {
+    let rows: &[&[u8]] = &[&[0, 1], &[1, 0]];
+    let differ = book(
+        &[2; 3],
+        &[(&[0, 1], rows), (&[0, 2], rows), (&[1, 2], rows)],
+    );
+    let opening = shows(1, 0, &[3, 3, 3]);
+    let none = Seen {
+        outcome: 2,
+        ..shows(1, 0, &[])
+    };
+    assert_eq!(answers(&differ, &[FINISH]), [opening, none]);
+}
+
+#[test]
+fn k8_a_sheet_without_rows() {
+    let none = Seen {
+        outcome: 2,
+        ..shows(0, 0, &[])
+    };
+    for dead in [
+        book(&[2], &[(&[0], &[])]),
+        book(&[32, 1], &[(&[1], &[])]),
+        book(&[2, 2], &[(&[0], &[&[1]]), (&[0, 1], &[])]),
+    ] {
+        assert_eq!(answers(&dead, &[FINISH]), [shows(0, 0, &[]), none]);
+    }
+}
+
+#[test]
+fn k9_no_sheets() {
+    let free = book(&[1, 2, 31, 32], &[]);
+    let opening = shows(1, 0, &[1, 3, 0x7FFF_FFFF, !0]);
+    let found = Seen {
+        outcome: 1,
+        ..shows(1, 0, &[1; 4])
+    };
+    assert_eq!(answers(&free, &[FINISH]), [opening, found]);
+    // One value in each column is decided, with no sheet to say so.
+    assert_eq!(answers(&book(&[1, 1], &[]), &[]), [shows(2, 0, &[1, 1])]);
+}
+
+#[test]
+fn k10_narrow_width_8() {
+    let opening = shows(1, 0, &[7, 3, 3]);
+    let refused = Seen {
+        refusal: 22,
+        ..opening
+    };
+    let (number, answers) = run(&harbour(), &[narrow(WIDTH, 8)]);
+    assert_eq!((number, answers), (0, vec![opening, refused]));
+}
+
+/// "On H with mark, narrow board 1, finish, back 1, back 1, narrow width 4"
+#[test]
+fn the_printed_run() {
+    let orders = [
+        MARK,
+        narrow(BOARD, 1),
+        FINISH,
+        back(1),
+        back(1),
+        narrow(WIDTH, 4),
+    ];
+    let opening = shows(1, 0, &[7, 3, 3]);
+    let marked = |seen| Seen { depth: 1, ..seen };
+    let found = Seen {
+        outcome: 1,
+        ..shows(1, 3, &[1, 1, 1])
+    };
+    let refused = Seen {
+        refusal: 24,
+        ..opening
+    };
+    let expected = [
+        opening,
+        marked(opening),
+        marked(shows(1, 3, &[3, 1, 1])),
+        marked(found),
+        opening,
+        refused,
+        shows(2, 3, &[4, 2, 2]),
+    ];
+    let (number, answers) = run(&harbour(), &orders);
+    assert_eq!(number, 5);
+    assert_eq!(answers, expected);
+}
+
+/// The 15 tuples of document 002's walk-through; its values are 0 to 9.
+const TUPLES: [[u8; 3]; 15] = [
+    [1, 5, 8],
+    [2, 1, 4],
+    [1, 3, 2],
+    [2, 4, 2],
+    [6, 5, 9],
+    [7, 7, 8],
+    [4, 2, 1],
+    [1, 1, 1],
+    [7, 8, 9],
+    [8, 9, 6],
+    [2, 2, 3],
+    [0, 0, 0],
+    [2, 3, 1],
+    [5, 8, 5],
+    [4, 3, 1],
+];
+
+/// The mask of these values.
+fn mask(values: &[u32]) -> u32 {
+    values.iter().map(|value| 1 << value).sum()
+}
+
+/// Every domain becomes {1, 2, 3, 4}: 8 tuples are left, and none has 3 for x0. Then x1 loses 1 and 2:
+/// 4 tuples are left, and x2 loses 3 and 4.
+#[test]
+fn the_walk_through_of_document_002() {
+    let rows: Vec<&[u8]> = TUPLES.iter().map(|tuple| &tuple[..]).collect();
+    let table = book(&[10; 3], &[(&[0, 1, 2], &rows)]);
+    let domain = mask(&[1, 2, 3, 4]);
+    let orders = [
+        narrow(0, domain),
+        narrow(1, domain),
+        narrow(2, domain),
+        narrow(1, mask(&[3, 4])),
+        FINISH,
+    ];
+    let answers = answers(&table, &orders);
+    let all = |x0: &[u32], x1: &[u32], x2: &[u32]| shows(1, 0, &[mask(x0), mask(x1), mask(x2)]);
+    let opening = all(
+        &[0, 1, 2, 4, 5, 6, 7, 8],
+        &[0, 1, 2, 3, 4, 5, 7, 8, 9],
+        &[0, 1, 2, 3, 4, 5, 6, 8, 9],
+    );
+    let found = Seen {
+        outcome: 1,
+        ..all(&[1], &[3], &[2])
+    };
+    let expected = [
+        opening,
+        all(&[1, 2, 4], &[1, 2, 3, 4, 5], &[1, 2, 3, 4, 8]),
+        all(&[1, 2, 4], &[1, 2, 3, 4], &[1, 2, 3, 4]),
+        all(&[1, 2, 4], &[1, 2, 3, 4], &[1, 2, 3, 4]),
+        all(&[1, 2, 4], &[3, 4], &[1, 2]),
+        found,
+    ];
+    assert_eq!(answers, expected);
+}
+
+/// The same, every step undone and done again.
+#[test]
+fn the_walk_through_to_and_fro() {
+    let rows: Vec<&[u8]> = TUPLES.iter().map(|tuple| &tuple[..]).collect();
+    let table = book(&[10; 3], &[(&[0, 1, 2], &rows)]);
+    let domain = mask(&[1, 2, 3, 4]);
+    let narrows = [
+        narrow(0, domain),
+        narrow(1, domain),
+        narrow(2, domain),
+        narrow(1, mask(&[3, 4])),
+    ];
+    let once = answers(&table, &narrows);
+    let mut orders = Vec::new();
+    for (step, &order) in narrows.iter().enumerate() {
+        orders.extend([MARK, order, back(step as u8 + 1), MARK, order]);
+    }
+    let turns = answers(&table, &orders);
+    for (step, turn) in turns[1..].chunks(5).enumerate() {
+        let [before, after] = [once[step], once[step + 1]].map(|seen| seen.domains);
+        let domains: Vec<_> = turn.iter().map(|seen| seen.domains).collect();
+        assert_eq!(domains, [before, after, before, before, after]);
+    }
+}

@@ -1,0 +1,163 @@
+//! Lengths: of the list, of the space for the answers, and what is refused first.
+
+use conformance::{
+    agreed_run, back, harbour, narrow, refused, regular, space_for, tiny, write, Order, Seen,
+    FINISH, MARK,
+};
+
+const BOARD: u8 = 2;
+
+/// The number that both versions give with so much space; a refused run leaves it as it was.
+fn number(book: &[u8], orders: &[u8], space: usize) -> u64 {
+    agreed_run(book, orders, space).0
+}
+
+/// The number and the answers of orders over the harbour book.
+fn harbour_run(orders: &[Order]) -> (u64, Vec<Seen>) {
+    let orders = orders.concat();
+    let (number, space) = agreed_run(&write(&harbour()), &orders, space_for(&orders));
+    (number, Seen::read_all(&space))
+}
+
+/// Refusal 10 by the length alone, whatever the bytes are.
+#[test]
+fn every_length_of_a_list() {
+    let book = write(&tiny());
+    let mut orders = [MARK, narrow(0, 1), FINISH, back(1)].concat().repeat(75);
+    for fill in [None, Some(0), Some(0xFF)] {
+        if let Some(byte) = fill {
+            orders.fill(byte);
+        }
+        for length in 0..=orders.len() {
+            let list = &orders[..length];
+            let number = number(&book, list, space_for(list));
+            if length % 8 != 0 || length > 2_048 {
+                assert_eq!(number, refused(10, 0), "{length} bytes");
+            } else {
+                let accepted = if fill.is_some() { 0 } else { length / 8 };
+                assert_eq!(number, accepted as u64, "{length} bytes");
+            }
+        }
+    }
+}
+
+/// "256 orders run, 257 give 10": of each kind, and lists that are much longer.
+#[test]
+fn the_longest_list() {
+    let book = write(&harbour());
+    let narrows = narrow(BOARD, 1);
+    for (order, accepted) in [(MARK, 16), (narrows, 256), (FINISH, 256), (back(1), 0)] {
+        let orders = order.repeat(257);
+        let most = &orders[..2_048];
+        assert_eq!(number(&book, most, 72 * 257), accepted);
+        assert_eq!(number(&book, most, 72 * 257 - 1), refused(11, 72 * 257));
+        assert_eq!(number(&book, &orders, 72 * 258), refused(10, 0));
+        for length in [2_049, 2_055, 4_096, 65_536, 524_288] {
+            let longer = order.repeat(length / 8 + 1);
+            let longer = &longer[..length];
+            assert_eq!(number(&book, longer, 72 * 257), refused(10, 0));
+        }
+    }
+    let to_and_fro = [MARK, back(1)].concat().repeat(128);
+    assert_eq!(number(&book, &to_and_fro, 72 * 257), 256);
+}
+
+/// "mark 16 is accepted, mark 17 refused"
+#[test]
+fn sixteen_marks() {
+    let (number, answers) = harbour_run(&[MARK; 18]);
+    assert_eq!(number, 16);
+    let seen: Vec<_> = answers
+        .iter()
+        .map(|seen| (seen.refusal, seen.depth))
+        .collect();
+    for (i, &seen) in seen.iter().enumerate() {
+        let expected = if i <= 16 { (0, i as u8) } else { (23, 16) };
+        assert_eq!(seen, expected, "mark {i}");
+    }
+    // After a back there is room for one more.
+    let orders = [&[MARK; 17][..], &[back(16), MARK, MARK]].concat();
+    let (number, answers) = harbour_run(&orders);
+    assert_eq!(number, 18);
+    let last: Vec<_> = answers[18..]
+        .iter()
+        .map(|seen| (seen.refusal, seen.depth))
+        .collect();
+    assert_eq!(last, [(0, 15), (0, 16), (23, 16)]);
+}
+
+/// Every length of the space around each number of answers: 11 names the bytes that are needed, and
+/// later bytes are left alone.
+#[test]
+fn every_length_of_the_space() {
+    let book = write(&harbour());
+    for count in [0, 1, 2, 3] {
+        let orders = [MARK, narrow(BOARD, 1), FINISH].concat();
+        let orders = &orders[..8 * count];
+        let needed = 72 * (count + 1);
+        for space in 0..=needed + 80 {
+            let expected = if space < needed {
+                refused(11, needed)
+            } else {
+                count as u64
+            };
+            assert_eq!(number(&book, orders, space), expected, "{space} bytes");
+        }
+    }
+    for count in 0..=256 {
+        let orders = MARK.repeat(count);
+        let needed = 72 * (count + 1);
+        let accepted = count.min(16) as u64;
+        assert_eq!(number(&book, &orders, needed - 1), refused(11, needed));
+        assert_eq!(number(&book, &orders, needed), accepted);
+        assert_eq!(number(&book, &orders, needed + 1), accepted);
+    }
+    let orders = MARK.repeat(256);
+    for space in [0, 1, 72, 18_432, 18_503] {
+        assert_eq!(number(&book, &orders, space), refused(11, 18_504));
+    }
+    assert_eq!(number(&book, &orders, 1 << 20), 16);
+}
+
+/// A refused book, then refused orders, then a space that is too short.
+#[test]
+fn what_is_refused_first() {
+    let right = write(&harbour());
+    let mut wrong = right.clone();
+    wrong[600] ^= 1;
+    let [no_orders, ragged, too_many] = [vec![], vec![0; 9], vec![0; 2_056]];
+    for space in [0, 71, 72, 144, 20_000] {
+        for orders in [&no_orders, &ragged, &too_many] {
+            assert_eq!(number(&wrong, orders, space), refused(2, 1));
+            assert_eq!(number(&[], orders, space), refused(1, 0));
+            assert_eq!(number(&right[..1_024], orders, space), refused(4, 3));
+        }
+        assert_eq!(number(&right, &ragged, space), refused(10, 0));
+        assert_eq!(number(&right, &too_many, space), refused(10, 0));
+    }
+    assert_eq!(number(&right, &no_orders, 71), refused(11, 72));
+    assert_eq!(number(&right, &no_orders, 72), 0);
+}
+
+/// Each refusal of a book leaves the space alone.
+#[test]
+fn refused_books() {
+    let mut long = write(&regular(16, 32, 8, 508, 4));
+    long.extend([0; 512]);
+    let changed = |at: usize, value: u8| {
+        let mut bytes = write(&harbour());
+        bytes[at] = value;
+        conformance::mend(&mut bytes);
+        bytes
+    };
+    for (book, expected) in [
+        (vec![0; 511], refused(1, 0)),
+        (long, refused(1, 0)),
+        (vec![0; 512], refused(2, 0)),
+        (changed(4, 17), refused(3, 4)),
+        (write(&harbour())[..512].to_vec(), refused(4, 3)),
+        (changed(1_024, 2), refused(5, 2)),
+    ] {
+        assert_eq!(number(&book, &MARK, 144), expected);
+    }
+}

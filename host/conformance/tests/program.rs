@@ -1,0 +1,197 @@
+//! The program `fit`: what it prints, compared with the reference line by line.
+//!
+//! It is looked for in the folder that `FITTING_BIN_DIR` names, or else in `target/bin` of the
+//! repository. A relative folder counts from this crate's own.
+
+use conformance::{
+    back, harbour, narrow, regular, tiny, write, Case, Random, Run, FINISH, LONGEST, MARK,
+};
+use std::env;
+use std::fs;
+use std::io::{ErrorKind, Write};
+use std::path::{Path, PathBuf};
+use std::process::{self, Command, Stdio};
+use std::thread;
+use std::time::Duration;
+
+const SEEDED: u64 = 300;
+
+/// Long enough for the program to read one piece before the next comes.
+const PAUSE: Duration = Duration::from_millis(5);
+
+fn program() -> PathBuf {
+    let folder = env::var_os("FITTING_BIN_DIR").unwrap_or_else(|| "../../target/bin".into());
+    let program = Path::new(env!("CARGO_MANIFEST_DIR"))
+        .join(folder)
+        .join("fit");
+    assert!(
+        program.is_file(),
+        "the program is not at {}: build it, or name its folder in FITTING_BIN_DIR",
+        program.display()
+    );
+    program
+}
+
+/// A folder of its own for one test, gone when the test is over.
+struct Folder(PathBuf);
+
+impl Folder {
+    fn new(test: &str) -> Self {
+        let folder = env::temp_dir().join(format!("fit-{}-{test}", process::id()));
+        fs::create_dir_all(&folder).expect("a folder for the test");
+        Self(folder)
+    }
+
+    /// What the program prints with this book, if any, as book.bin, and the orders in pieces.
+    fn prints(&self, book: Option<&[u8]>, orders: &[&[u8]]) -> String {
+        let file = self.0.join("book.bin");
+        match book {
+            Some(book) => fs::write(file, book).expect("book.bin"),
+            None => fs::remove_file(file).unwrap_or(()),
+        }
+        let mut child = Command::new(program())
+            .current_dir(&self.0)
+            .stdin(Stdio::piped())
+            .stdout(Stdio::piped())
+            .spawn()
+            .expect("the program starts");
+        let mut input = child.stdin.take().expect("its input");
+        for piece in orders {
+            match input.write_all(piece) {
+                // It need not read a list to the end that is too long.
+                Err(error) if error.kind() == ErrorKind::BrokenPipe => break,
+                written => written.expect("the orders are written"),
+            }
+            if orders.len() > 1 {
+                thread::sleep(PAUSE);
+            }
+        }
+        drop(input);
+        let output = child.wait_with_output().expect("the program ends");
+        assert!(output.status.code().is_some(), "ended by a signal");
+        String::from_utf8(output.stdout).expect("text")
+    }
+
+    /// It prints what the reference does.
+    fn agrees(&self, book: &[u8], orders: &[u8]) -> String {
+        let printed = self.prints(Some(book), &[orders]);
+        assert_eq!(printed, reference::printed(book, orders));
+        printed
+    }
+}
+
+impl Drop for Folder {
+    fn drop(&mut self) {
+        let _ = fs::remove_dir_all(&self.0);
+    }
+}
+
+/// The example of document 01.
+fn example() -> Vec<u8> {
+    let orders = [MARK, narrow(2, 1), FINISH, back(1), back(1), narrow(0, 4)];
+    orders.concat()
+}
+
+const EXAMPLE_LINES: &str = "0 0 1 0 0 0 7 3 3\n\
+                             1 0 1 1 0 0 7 3 3\n\
+                             2 0 1 1 3 0 3 1 1\n\
+                             3 0 1 1 3 1 1 1 1\n\
+                             4 0 1 0 0 0 7 3 3\n\
+                             5 24 1 0 0 0 7 3 3\n\
+                             6 0 2 0 3 0 4 2 2\n\
+                             accepted 5\n";
+
+#[test]
+fn the_example_prints_its_lines() {
+    let folder = Folder::new("example");
+    let printed = folder.agrees(&write(&harbour()), &example());
+    assert_eq!(printed, EXAMPLE_LINES);
+}
+
+/// Orders that come byte by byte are the same orders.
+#[test]
+fn orders_in_pieces() {
+    let folder = Folder::new("pieces");
+    let book = write(&harbour());
+    let example = example();
+    for size in [1, 3, 8, 47] {
+        let pieces: Vec<&[u8]> = example.chunks(size).collect();
+        assert_eq!(folder.prints(Some(&book), &pieces), EXAMPLE_LINES);
+    }
+}
+
+#[test]
+fn no_book_and_books_of_wrong_length() {
+    let folder = Folder::new("lengths");
+    for orders in [&[][..], &MARK, &[1], &[0; 3_000]] {
+        let printed = folder.prints(None, &[orders]);
+        assert_eq!(printed, "refused 1 0\n", "no book.bin");
+    }
+    // A right book of 33 blocks, and what comes after it.
+    let mut book = write(&regular(16, 32, 8, 508, 2));
+    assert_eq!(book.len(), LONGEST * 512);
+    folder.agrees(&book, &MARK);
+    for length in [16_897, 17_408, 20_000, 1 << 20] {
+        book.resize(length, 0);
+        assert_eq!(folder.agrees(&book, &MARK), "refused 1 0\n");
+    }
+    for length in [0, 1, 511, 513, 16_895] {
+        assert_eq!(folder.agrees(&book[..length], &[]), "refused 1 0\n");
+    }
+}
+
+#[test]
+fn lists_of_every_kind_of_length() {
+    let folder = Folder::new("lists");
+    let book = write(&harbour());
+    let orders = [MARK, narrow(2, 1), FINISH, back(1)].concat().repeat(5_000);
+    for length in [0, 8, 16, 2_032, 2_040, 2_048] {
+        let printed = folder.agrees(&book, &orders[..length]);
+        assert_eq!(printed.lines().count(), length / 8 + 2);
+        let last = format!("accepted {}\n", length / 8);
+        assert!(printed.ends_with(&last), "{length} bytes");
+    }
+    for length in [1, 7, 9, 2_047, 2_049, 2_055, 2_056, 4_096, 65_536, 160_000] {
+        let printed = folder.agrees(&book, &orders[..length]);
+        assert_eq!(printed, "refused 10 0\n", "{length} bytes");
+    }
+    // A wrong book comes before wrong orders.
+    assert_eq!(folder.agrees(&book[..512], &[1]), "refused 4 3\n");
+}
+
+/// Every number that a line can have at its longest, and the shortest book.
+#[test]
+fn wide_and_narrow_lines() {
+    let folder = Folder::new("lines");
+    let orders = [MARK.repeat(17), narrow(15, 1 << 31).to_vec()].concat();
+    let printed = folder.agrees(&write(&regular(16, 32, 0, 0, 1)), &orders);
+    let all = " 4294967295".repeat(15);
+    let last = format!("18 0 1 16 0 0{all} 2147483648\naccepted 17\n");
+    assert!(printed.ends_with(&last), "{printed}");
+    assert_eq!(
+        folder.agrees(&write(&tiny()), &[]),
+        "0 0 2 0 0 0 1\naccepted 0\n"
+    );
+}
+
+/// Seeded books and lists, and seeded books that are most often damaged.
+#[test]
+fn seeded_runs() {
+    let folder = Folder::new("seeded");
+    let (mut accepted, mut refused) = (0, 0);
+    for seed in 0..SEEDED {
+        let run = Run::new(seed);
+        let printed = folder.agrees(&run.book, &run.orders);
+        let damaged = Case::new(Random::new(seed).bits()).bytes;
+        let other = folder.agrees(&damaged, &run.orders);
+        for printed in [printed, other] {
+            accepted += usize::from(printed.starts_with('0'));
+            refused += usize::from(printed.starts_with("refused"));
+        }
+    }
+    assert_eq!((accepted + refused) as u64, 2 * SEEDED);
+    assert!(
+        accepted > 200 && refused > 200,
+        "{accepted} accepted, {refused} refused"
+    );
+}

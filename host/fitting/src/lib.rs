@@ -38,8 +38,9 @@
 //! # Ok::<(), fitting::Refusal>(())
 //! ```
 //!
-//! Nothing is copied and nothing is checked twice: the library's answer is a theorem about its
-//! code, so an accepted book is read as it lies. No input makes any function here panic.
+//! No book is copied, and what the library has accepted is not looked at again: its answer is a
+//! theorem about its code, so books and answers are read as they lie. No input makes any function
+//! here panic.
 
 #![deny(unsafe_code)]
 

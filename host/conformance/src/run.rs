@@ -121,8 +121,8 @@ fn list_bytes(random: &mut Random, list: &[Order]) -> Vec<u8> {
     orders
 }
 
-/// A search through the largest books may take hours, so they are finished, if at all, when few
-/// columns are left open.
+/// A search through one of the largest books may take minutes and more, so it is finished, if at
+/// all, when few columns are left open.
 fn finish_late(random: &mut Random, list: &mut Vec<Order>, aim: &[u8]) {
     for order in list.iter_mut().filter(|order| **order == FINISH) {
         *order = narrow(0, u32::MAX);

@@ -1,3 +1,5 @@
--- The laws behind the functions: texts one after the other in a buffer, and numbers in base ten.
+-- The worked examples, and the laws behind the functions: texts one after the other in a buffer, numbers in base ten.
+
+pub mod Acceptance
 pub mod Writing
 pub mod Figures

@@ -1,7 +1,7 @@
 -- Texts put into a buffer one after the other. Assumes nothing.
-use mathlib.Core.Path.{_≡_, refl, sym, _∙_, ap, subst, subst⁻¹}
+use mathlib.Core.Path.{_≡_, refl, sym, _∙_, subst}
 use mathlib.Core.List.{List, [], _∷_, _++_, append-assoc, append-nil}
-use Prim.Native.Nat.{ℕ, suc, _+_, _*_, _≤_, _<_}
+use Prim.Native.Nat.{ℕ, _+_, _*_, _≤_, _<_}
 use native.Mathlib.Numerals.{add-one}
 use native.Mathlib.Omega.{arith}
 use lib.ListN.{length, take, set, getD, length-append, length-set}
@@ -27,7 +27,8 @@ written-one out at x h =
     }
 
 -- a text, and behind it another
-pub written-then : {m n : ℕ} {a b c : List ℕ} {p q r : ℕ} {s t : List ℕ} → Written m a b p q s → Written n b c q r t → Written (m + n) a c p r (s ++ t)
+pub written-then : {m n : ℕ} {a b c : List ℕ} {p q r : ℕ} {s t : List ℕ} → Written m a b p q s → Written n b c q r t
+    → Written (m + n) a c p r (s ++ t)
 written-then {s = s} {t = t} v w =
     record {
       bytes = w .bytes ∙ rw (v .bytes, append-assoc);
@@ -52,12 +53,13 @@ written-short w h = record { bytes = w .bytes; end = w .end; short = h; within =
 -- byte i behind the first i bytes of a text
 pub written-next : (text : List ℕ) (i : ℕ) {a b c : List ℕ} {p q r : ℕ} → i < length text → Written i a b p q (take i text)
     → Written 1 b c q r (getD text i 0 ∷ []) → Written (i + 1) a c p r (take (i + 1) text)
-written-next text i {a} {b} {c} {p} {q} {r} h v w =
+written-next text i h v w =
     let e : take (i + 1) text ≡ take i text ++ (getD text i 0 ∷ []) = rw (add-one, take-suc text i 0) in
-    subst⁻¹ (λ (t : List ℕ). Written (i + 1) a c p r t) e (written-then v w)
+    written-as (sym e) (written-then v w)
 
 -- as many bytes of a text as it has
-pub written-all : (text : List ℕ) (i : ℕ) {a b : List ℕ} {p q : ℕ} → i ≡ length text → Written i a b p q (take i text) → Written (length text) a b p q text
+pub written-all : (text : List ℕ) (i : ℕ) {a b : List ℕ} {p q : ℕ} → i ≡ length text → Written i a b p q (take i text)
+    → Written (length text) a b p q text
 written-all text i e w = rw (e, take-length) at w
 
 -- ---- the parts of a run's text
@@ -79,16 +81,11 @@ written-line columns space i {answer} e v w =
     written-as t (written-most (written-then v w) (omega arith))
 
 -- a run that was refused, and one that was accepted
-pub written-refused : (number columns n : ℕ) (space : List ℕ) {m : ℕ} {a b : List ℕ} {p q : ℕ} → 65536 ≤ number → Written m a b p q (refusedLine number)
-    → Written m a b p q (printed number columns n space)
+pub printed-refused : (number columns n : ℕ) (space : List ℕ) → 65536 ≤ number → refusedLine number ≡ printed number columns n space
 unfolding printed
-written-refused number columns n space h w =
-    let t : refusedLine number ≡ printed number columns n space = rw (le-ltb number 65536 h) in
-    written-as t w
+printed-refused number columns n space h = rw (le-ltb number 65536 h)
 
-pub written-accepted : (number columns n : ℕ) (space : List ℕ) {m : ℕ} {a b : List ℕ} {p q : ℕ} → number < 65536
-    → Written m a b p q (answerLines columns space (n + 1) ++ acceptedLine number) → Written m a b p q (printed number columns n space)
+pub printed-accepted : (number columns n : ℕ) (space : List ℕ) → number < 65536
+    → answerLines columns space (n + 1) ++ acceptedLine number ≡ printed number columns n space
 unfolding printed
-written-accepted number columns n space h w =
-    let t : answerLines columns space (n + 1) ++ acceptedLine number ≡ printed number columns n space = rw (add-one, lt-ltb number 65536 h) in
-    written-as t w
+printed-accepted number columns n space h = rw (add-one, lt-ltb number 65536 h)

@@ -1,3 +1,4 @@
--- Texts has the paper's words for what a run prints; Written is for those who read the code.
+-- Texts has the paper's words for what a run prints; Acceptance has worked examples. Written is for those who read the code.
 pub mod Texts
+pub mod Acceptance
 pub mod Written

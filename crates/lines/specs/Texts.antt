@@ -1,10 +1,18 @@
 -- The text of a run, as bytes in ASCII: numbers, fields, lines, the whole. Nothing here is proved: the laws stand in proofs/.
 use mathlib.Core.Bool.{true, false, cond}
 use mathlib.Core.List.{List, [], _∷_, _++_}
+use Prim.Native.Char.{code}
 use Prim.Native.Nat.{ℕ, zero, suc, _+_, _*_, _/_, _%_}
+use Prim.Native.String.{String}
+use Prim.Native.String.{[] as empty, _∷_ as _then_}
 use lib.Dec.{ltb}
 use lib.ListN.{take, drop}
 use Rattle.book.specs.Fields.{byteAt, wordAt}
+
+-- the bytes of letters, digits, spaces and newlines
+abbrev pub ascii : String → List ℕ
+ascii empty = []
+ascii (c then s) = code c ∷ ascii s
 
 -- ---- numbers and fields
 -- x in base ten without leading zeros, in at most k digits: a number below ten is its digit (48 is `0`); any other is the text of x / 10,
@@ -17,12 +25,12 @@ numberIn (suc k) x = elim (ltb x 10) [ true ↦ (48 + x) ∷ [] | false ↦ numb
 abbrev pub number : ℕ → List ℕ
 number x = numberIn 20 x
 
--- "with one space between fields": a space (32), then the number
+-- "with one space between fields": a space, then the number
 abbrev pub field : ℕ → List ℕ
-field x = 32 ∷ number x
+field x = ascii " " ++ number x
 
 abbrev pub newline : List ℕ
-newline = 10 ∷ []
+newline = ascii "\n"
 
 -- ---- a line
 -- "the C domains": four bytes each from byte 8 on, the lowest first
@@ -52,21 +60,13 @@ answerLines C space zero = []
 answerLines C space (suc i) = answerLines C space i ++ answerLine C i (answerAt space i)
 
 -- ---- a run
--- the letters `accepted`
-abbrev pub acceptedWord : List ℕ
-acceptedWord = 97 ∷ 99 ∷ 99 ∷ 101 ∷ 112 ∷ 116 ∷ 101 ∷ 100 ∷ []
-
--- the letters `refused`
-abbrev pub refusedWord : List ℕ
-refusedWord = 114 ∷ 101 ∷ 102 ∷ 117 ∷ 115 ∷ 101 ∷ 100 ∷ []
-
 -- "Last line: accepted and the count"
 unfoldable pub acceptedLine : ℕ → List ℕ
-acceptedLine k = acceptedWord ++ field k ++ newline
+acceptedLine k = ascii "accepted" ++ field k ++ newline
 
 -- "a refused run prints only: refused, number, place"; the run's number is "refusal × 65,536 + place"
 unfoldable pub refusedLine : ℕ → List ℕ
-refusedLine r = refusedWord ++ field (r / 65536) ++ field (r % 65536) ++ newline
+refusedLine r = ascii "refused" ++ field (r / 65536) ++ field (r % 65536) ++ newline
 
 -- the whole text of a run that returned r, on a book of C columns, with n orders: answers 0 to n, then the last line
 unfoldable pub printed : ℕ → ℕ → ℕ → List ℕ → List ℕ

@@ -8,7 +8,7 @@ use book::fields::word_of;
 ghost use mathlib.Core.Path.{_≡_};
 ghost use mathlib.Core.List.{[], _∷_};
 ghost use Prim.Native.Nat.{_+_, _*_, _<_, _≤_};
-ghost use lib.ListN.{length};
+ghost use lib.ListN.{length, take};
 ghost use Rattle.book.specs.Fields.{wordAt};
 ghost use Rattle.lines.specs.Texts.{number as Texts·number, field, domainFields, answerHead, answerLine, answerLines, acceptedLine, refusedLine, printed};
 ghost use Rattle.lines.specs.Written.{Written};
@@ -150,7 +150,7 @@ fn put_refused(out: &mut [u8], at: usize, number: u64) -> usize
 // The text of a run that returned `number`, on a book of so many columns, with n orders, from the start of the buffer.
 pub fn print(number: u64, columns: usize, n: usize, answers: &[u8], out: &mut [u8]) -> usize
     requires { ⌜ (columns ≤ 16) × (n ≤ 256) × (72 * n + 72 ≤ length (now answers)) × (65536 ≤ length (now out)) ⌝ }
-    ensures { λ r. ⌜ Written 65536 (now (out .entry)) (now (out .exit)) 0 r (printed number columns n (now (answers .entry))) ⌝ }
+    ensures { λ r. ⌜ (take r (now (out .exit)) ≡ printed number columns n (now (answers .entry))) × (r ≤ length (now (out .exit))) × (length (now (out .exit)) ≡ length (now (out .entry))) ⌝ }
 {
     if 65536 <= number {
         return put_refused(out, 0, number);

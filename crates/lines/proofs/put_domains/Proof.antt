@@ -1,17 +1,12 @@
-use native.Mathlib.Omega.{arith}
-use Rattle.lines.proofs.Writing.{written-none, written-domain}
-use borrow.Author.Needs.{needs}
-use Prim.Native.Nat.{_≤_, _<_, _-_, _+_, _*_}
 use mathlib.Core.Path.{_≡_}
-use lib.ListN.{length, take}
+use Prim.Native.Nat.{_≤_, _-_, _*_}
+use native.Mathlib.Omega.{arith}
+use borrow.Author.Needs.{needs}
 use Rattle.lines.specs.Written.{Written}
 use Rattle.lines.specs.Texts.{domainFields}
+use Rattle.lines.proofs.Writing.{written-none, written-domain}
 use Rattle.lines.proofs.put_domains.Statement.{statement}
 use Rattle.lines.proofs.put_domains.Tie as tie
-use Rattle.lines.proofs.put_domains.Reads as reads
-use Rattle.lines.proofs.put_domains.Lts as lts
-use Rattle.lines.proofs.domain.Reads as domain-reads
-use Rattle.lines.proofs.put_word_field.Reads as put-word-field-reads
 
 abbrev Inv-loop : tie.InvT-loop
 Inv-loop out₀ at answer columns next₀ c₀ out next c = (c ≤ columns) × Written (11 * c) out₀ out at next (domainFields answer c)
@@ -19,38 +14,32 @@ Inv-loop out₀ at answer columns next₀ c₀ out next c = (c ≤ columns) × W
 abbrev μ-loop : tie.MeasureT-loop
 μ-loop out₀ at answer columns next₀ c₀ out next c = columns - c
 
--- src/lib.rt:85:5
 loop-holds : tie.Need-loop-holds Inv-loop μ-loop
 unfolding domainFields
 loop-holds c = let s = c .before .before in (search needs, written-none (s .args .out .now) (s .args .at) (search needs))
 
--- src/lib.rt:86:42
 domain-requires : tie.Need-domain-requires Inv-loop μ-loop
 domain-requires c κs = search needs
 
--- src/lib.rt:86:9
 put-word-field-requires : tie.Need-put-word-field-requires Inv-loop μ-loop
 put-word-field-requires c κs = search needs
 
--- src/lib.rt:87:9
 add-c : tie.Need-add-c Inv-loop μ-loop
 add-c c = search needs
 
--- src/lib.rt:85:5
 loop-less : tie.Need-loop-less Inv-loop μ-loop
 loop-less c = search needs
 
--- src/lib.rt:85:5
 loop-again : tie.Need-loop-again Inv-loop μ-loop
-loop-again c = 
+loop-again c =
     let m = c .before .before .before .before .before .before in
-    (search needs, written-domain (m .before .before .before .args .answer .now) (m .loop .c) (c .before .before .before .domain .result) (c .before .before .before .domain .ensures) (m .loop .inv .1) (c .before .before .put-word-field .ensures))
+    let d = c .before .before .before .domain in
+    let w = c .before .before .put-word-field .ensures in
+    (search needs, written-domain (m .before .before .before .args .answer .now) (m .loop .c) (d .result) (d .ensures) (m .loop .inv .1) w)
 
--- src/lib.rt:79:1
 same-length : tie.Need-same-length Inv-loop μ-loop
 same-length c = search needs
 
--- src/lib.rt:79:1
 returns : tie.Need-returns Inv-loop μ-loop
 returns c = let e : c .before .loop .c ≡ c .before .before .before .before .args .columns = omega arith in rw e at (c .before .loop .inv .1)
 

@@ -1,69 +1,48 @@
+use borrow.Author.Needs.{needs}
 use Rattle.lines.specs.Texts.{answerHead}
 use Rattle.lines.proofs.Writing.{written-then}
-use Prim.Native.Nat.{_≤_, _<_, _-_, _+_, _*_}
-use mathlib.Core.Path.{_≡_}
-use lib.ListN.{length, take}
-use Rattle.lines.specs.Written.{Written}
-use borrow.Author.Needs.{needs}
 use Rattle.lines.proofs.put_head.Statement.{statement}
 use Rattle.lines.proofs.put_head.Tie as tie
-use Rattle.lines.proofs.put_head.Reads as reads
-use Rattle.lines.proofs.put_head.Lts as lts
-use Rattle.lines.proofs.put_byte_field.Reads as put-byte-field-reads
-use Rattle.lines.proofs.put_number.Reads as put-number-reads
 
--- src/lib.rt:97:9
 put-number-requires : tie.Need-put-number-requires
 put-number-requires c κs = search needs
 
--- src/lib.rt:98:47
 shared-slice-read-put-byte-field : tie.Need-shared-slice-read-put-byte-field
 shared-slice-read-put-byte-field c = search needs
 
--- src/lib.rt:98:9
 put-byte-field-requires : tie.Need-put-byte-field-requires
 put-byte-field-requires c κs = search needs
 
--- src/lib.rt:99:47
 shared-slice-read-put-byte-field-2 : tie.Need-shared-slice-read-put-byte-field-2
 shared-slice-read-put-byte-field-2 c = search needs
 
--- src/lib.rt:99:9
 put-byte-field-requires-2 : tie.Need-put-byte-field-requires-2
 put-byte-field-requires-2 c κs = search needs
 
--- src/lib.rt:100:45
 shared-slice-read-put-byte-field-3 : tie.Need-shared-slice-read-put-byte-field-3
 shared-slice-read-put-byte-field-3 c = search needs
 
--- src/lib.rt:100:9
 put-byte-field-requires-3 : tie.Need-put-byte-field-requires-3
 put-byte-field-requires-3 c κs = search needs
 
--- src/lib.rt:101:43
 shared-slice-read-put-byte-field-4 : tie.Need-shared-slice-read-put-byte-field-4
 shared-slice-read-put-byte-field-4 c = search needs
 
--- src/lib.rt:101:9
 put-byte-field-requires-4 : tie.Need-put-byte-field-requires-4
 put-byte-field-requires-4 c κs = search needs
 
--- src/lib.rt:102:31
 shared-slice-read-put-byte-field-5 : tie.Need-shared-slice-read-put-byte-field-5
 shared-slice-read-put-byte-field-5 c = search needs
 
--- src/lib.rt:102:5
 put-byte-field-requires-5 : tie.Need-put-byte-field-requires-5
 put-byte-field-requires-5 c κs = search needs
 
--- src/lib.rt:93:1
 same-length : tie.Need-same-length
 same-length c = search needs
 
--- src/lib.rt:93:1
 returns : tie.Need-returns
 unfolding answerHead
-returns c = 
+returns c =
     let outcome = c .before .before in
     let done = outcome .before .before .before .before .before in
     let depth = done .before .before .before .before .before in

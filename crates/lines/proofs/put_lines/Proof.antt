@@ -1,19 +1,13 @@
-use lib.ListN.{drop}
-use Prim.Native.Nat.{ℕ}
-use mathlib.Core.Path.{ap}
+use mathlib.Core.Path.{ap, _≡_}
+use Prim.Native.Nat.{ℕ, _≤_, _-_, _+_, _*_}
 use native.Mathlib.Omega.{arith}
-use Rattle.lines.proofs.Writing.{written-none, written-line}
+use lib.ListN.{drop, take}
 use borrow.Author.Needs.{needs}
-use Prim.Native.Nat.{_≤_, _<_, _-_, _+_, _*_}
-use mathlib.Core.Path.{_≡_}
-use lib.ListN.{length, take}
 use Rattle.lines.specs.Written.{Written}
 use Rattle.lines.specs.Texts.{answerLines}
+use Rattle.lines.proofs.Writing.{written-none, written-line}
 use Rattle.lines.proofs.put_lines.Statement.{statement}
 use Rattle.lines.proofs.put_lines.Tie as tie
-use Rattle.lines.proofs.put_lines.Reads as reads
-use Rattle.lines.proofs.put_lines.Lts as lts
-use Rattle.lines.proofs.put_line.Reads as put-line-reads
 
 abbrev Inv-loop : tie.InvT-loop
 Inv-loop out₀ answers n columns next₀ i₀ out next i = (i ≤ n + 1) × Written (217 * i) out₀ out 0 next (answerLines columns answers i)
@@ -21,56 +15,46 @@ Inv-loop out₀ answers n columns next₀ i₀ out next i = (i ≤ n + 1) × Wri
 abbrev μ-loop : tie.MeasureT-loop
 μ-loop out₀ answers n columns next₀ i₀ out next i = n + 1 - i
 
--- src/lib.rt:114:5
 loop-holds : tie.Need-loop-holds Inv-loop μ-loop
 unfolding answerLines
 loop-holds c = let s = c .before .before in (search needs, written-none (s .args .out .now) 0 (search needs))
 
--- src/lib.rt:115:21
 mul-start : tie.Need-mul-start Inv-loop μ-loop
 mul-start c = search needs
 
--- src/lib.rt:116:19
 add-end : tie.Need-add-end Inv-loop μ-loop
 add-end c = search needs
 
--- src/lib.rt:117:36
 sub-put-line : tie.Need-sub-put-line Inv-loop μ-loop
 sub-put-line c = search needs
 
--- src/lib.rt:117:36
 part-put-line-start : tie.Need-part-put-line-start Inv-loop μ-loop
 part-put-line-start c = search needs
 
--- src/lib.rt:117:36
 part-put-line-end : tie.Need-part-put-line-end Inv-loop μ-loop
 part-put-line-end c = search needs
 
--- src/lib.rt:117:9
 put-line-requires : tie.Need-put-line-requires Inv-loop μ-loop
 put-line-requires c κs = search needs
 
--- src/lib.rt:118:9
 add-i : tie.Need-add-i Inv-loop μ-loop
 add-i c = search needs
 
--- src/lib.rt:114:5
 loop-less : tie.Need-loop-less Inv-loop μ-loop
 loop-less c = search needs
 
--- src/lib.rt:114:5
 loop-again : tie.Need-loop-again Inv-loop μ-loop
-loop-again c = 
+loop-again c =
     let m = c .before .before .before .before .before .before in
     let s = m .before .before .before in
+    let from = drop (72 * m .loop .i) (s .args .answers .now) in
     let e : 72 * m .loop .i + 72 - 72 * m .loop .i ≡ 72 = omega arith in
-    (search needs, written-line (s .args .columns) (s .args .answers .now) (m .loop .i) (ap (λ (k : ℕ). take k (drop (72 * m .loop .i) (s .args .answers .now))) e) (m .loop .inv .1) (c .before .before .put-line .ensures))
+    let w = c .before .before .put-line .ensures in
+    (search needs, written-line (s .args .columns) (s .args .answers .now) (m .loop .i) (ap (λ (k : ℕ). take k from) e) (m .loop .inv .1) w)
 
--- src/lib.rt:108:1
 same-length : tie.Need-same-length Inv-loop μ-loop
 same-length c = search needs
 
--- src/lib.rt:108:1
 returns : tie.Need-returns Inv-loop μ-loop
 returns c = let e : c .before .loop .i ≡ c .before .before .before .before .args .n + 1 = omega arith in rw e at (c .before .loop .inv .1)
 

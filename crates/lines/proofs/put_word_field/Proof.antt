@@ -1,26 +1,16 @@
-use Rattle.lines.proofs.Figures.{word-short}
 use native.Mathlib.Omega.{arith}
-use Rattle.lines.proofs.Writing.{written-short}
-use Prim.Native.Nat.{_≤_, _<_, _-_, _+_, _*_}
-use mathlib.Core.Path.{_≡_}
-use lib.ListN.{length, take}
-use Rattle.lines.specs.Written.{Written}
 use borrow.Author.Needs.{needs}
+use Rattle.lines.proofs.Writing.{written-short}
+use Rattle.lines.proofs.Figures.{word-short}
 use Rattle.lines.proofs.put_word_field.Statement.{statement}
 use Rattle.lines.proofs.put_word_field.Tie as tie
-use Rattle.lines.proofs.put_word_field.Reads as reads
-use Rattle.lines.proofs.put_word_field.Lts as lts
-use Rattle.lines.proofs.put_field.Reads as put-field-reads
 
--- src/lib.rt:67:5
 put-field-requires : tie.Need-put-field-requires
 put-field-requires c κs = search needs
 
--- src/lib.rt:63:1
 same-length : tie.Need-same-length
 same-length c = search needs
 
--- src/lib.rt:63:1
 returns : tie.Need-returns
 returns c = let s = c .before .before .before .before .before in written-short (c .before .before .put-field .ensures) (omega (arith, word-short (s .args .x) (s .fits .x .fits)))
 

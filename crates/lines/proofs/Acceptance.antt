@@ -1,0 +1,20 @@
+-- The worked examples of the text, by computation. Assumes nothing.
+use mathlib.Core.Path.{refl}
+use Rattle.model.specs.Answers.{domainBytes}
+use Rattle.model.proofs.Acceptance.{computing}
+use Rattle.lines.specs.Texts.{numberIn, domainFields, answerHead, answerLine, answerLines, acceptedLine, refusedLine, printed}
+use Rattle.lines.specs.Acceptance.{TextFacts, spaceOf}
+
+pub textFacts : TextFacts
+unfolding computing domainBytes numberIn domainFields answerHead answerLine answerLines acceptedLine refusedLine printed spaceOf
+textFacts =
+    record {
+      example = refl;
+      line-3 = refl;
+      domain-bytes = refl;
+      none = refl;
+      inner-zeros = refl;
+      largest = refl;
+      list-refused = refl;
+      book-refused = refl;
+    }

@@ -1,0 +1,40 @@
+use borrow.Author.Needs.{needs}
+use Rattle.fit.proofs.Prints.{run-printed}
+use Rattle.fit.proofs.put_run.Statement.{statement}
+use Rattle.fit.proofs.put_run.Tie as tie
+
+fitting-run-requires : tie.Need-fitting-run-requires
+fitting-run-requires c κs = search needs
+
+columns-requires : tie.Need-columns-requires
+columns-requires c κs = search needs
+
+print-requires : tie.Need-print-requires
+print-requires c κs = search needs
+
+same-length : tie.Need-same-length
+same-length c = search needs
+
+same-length-2 : tie.Need-same-length-2
+same-length-2 c = search needs
+
+returns : tie.Need-returns
+returns c =
+    let p = c .before .before in
+    let k = p .before .before .before in
+    let m = k .before .before .before in
+    let s = m .before .before .before .before .before .before .args in
+    let e = m .fitting-run .ensures in
+    let t = run-printed (s .book .now) (s .orders .now) (s .answers .now) (e .0) (k .columns .ensures .0) (e .1) (p .print .ensures .0) in
+    (t, p .print .ensures .1)
+
+pub put-run-spec : {M : Type 1} → statement M
+put-run-spec =
+    tie.close
+    (tie.spec
+    fitting-run-requires
+    columns-requires
+    print-requires
+    same-length
+    same-length-2
+    returns)

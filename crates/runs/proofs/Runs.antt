@@ -17,7 +17,7 @@ use Rattle.model.specs.Demands.{Gives, HoldsDomains}
 use Rattle.model.specs.Orders.{Entry, argument, before, depth, domains, isAccepted, kind, mask, nonzero, outside, push, refusal, trail, trailFrom}
 use Rattle.model.specs.Solutions.{firstSolution}
 use Rattle.model.specs.Tests.{oneIf, tab}
-use Rattle.model.proofs.Demands.{answer-finish, answer-other, claim1, gives-demand3}
+use Rattle.model.proofs.Demands.{answer-finish, answer-other, claim1, claim3, gives-demand3}
 use Rattle.model.proofs.Refusals.{push-finish, refusal-back, refusal-finish, refusal-mark, refusal-narrow, refusal-other}
 use Rattle.model.proofs.Tests.{and-i, below, either, getD-tab, length-tab}
 use Rattle.model.proofs.Trails.{accepted-snoc, answers-snoc, trail-snoc}
@@ -35,7 +35,7 @@ use Rattle.search.specs.Searches.{Finishes, isFound}
 use Rattle.search.specs.declared.Found.{Found}
 use Rattle.answers.specs.Parts.{finishAnswer, over, stateAnswer}
 use Rattle.answers.proofs.States.{finish-answer, state-answer}
-use Rattle.runs.specs.Runs.{Compares, FinishesAt, RanTo, ShowsAt, current}
+use Rattle.runs.specs.Runs.{Compares, EnginesCompare, FinishesAt, RanTo, ShowsAt, current}
 use Rattle.runs.specs.Spaces.{Adds, allBytes, answerAt, written}
 use Rattle.runs.proofs.Spaces.{adds, answer-part, length-written, written-over}
 
@@ -263,6 +263,10 @@ module _ (b o old : List ℕ) where
 -- the engine's sessions hold the domains of their trail
 pub holds-domains : (b : List ℕ) → HoldsDomains (bookOf b) Session current (Holds b)
 holds-domains b = record { at = λ L s h c. h .current .holds .domain c }
+
+-- the claim of specs/Runs.antt
+pub enginesCompare : EnginesCompare
+enginesCompare b = claim3 (bookOf b) Session current (Holds b) (holds-domains b)
 
 -- of any two lists that were run
 pub ran-compares : {b x y old old′ : List ℕ} {s t : Session} {k j : ℕ} {space space′ : List ℕ} → RanTo b x old (length x / 8) s k space → RanTo b y old′ (length y / 8) t j space′

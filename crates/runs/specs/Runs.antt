@@ -4,7 +4,7 @@ use mathlib.Core.List.{List}
 use Prim.Native.Nat.{_/_, ℕ}
 use lib.ListN.{length}
 use Rattle.model.specs.Answers.{acceptedCount, answers, finishing, showing}
-use Rattle.model.specs.Demands.{Demand3}
+use Rattle.model.specs.Demands.{Demand3, Opened, Run, Stepped}
 use Rattle.model.specs.Orders.{Entry, depth, trail}
 use Rattle.book.specs.Decoding.{bookOf}
 use Rattle.book.specs.Verdicts.{accepted}
@@ -33,12 +33,25 @@ pub record RanTo (b o old : List ℕ) (n : ℕ) (s : Session) (accepted : ℕ) (
   pub counts : accepted ≡ acceptedCount (bookOf b) (ordersTo o n)
   pub wrote : space ≡ written (answers (bookOf b) (ordersTo o n)) old
 
--- ---- two whole lists
--- the current domains of a session
+-- ---- demand 3 over the engine: its sessions, their current domains, and what they hold
 abbrev pub current : Session → List ℕ
 current s = s .now .dom
 
--- demand 3 of the lists x and y, which ended with the sessions s and t and whose answers stand in the spaces a and d
+-- the contract of the opening: "the session that answer 0 shows, with an empty standing list"
+abbrev pub Opens : List ℕ → Session → List ℕ → Type 0
+Opens b s a = Opened (bookOf b) Session current (Holds b) s a
+
+-- the contract of an order o that takes s, gives back t and writes the answer a
+abbrev pub Steps : List ℕ → Session → List ℕ → Session → List ℕ → Type 0
+Steps b s o t a = Stepped (bookOf b) Session current (Holds b) s o t a
+
+-- "Each order gets the session that the one before it gave back": of any two lists whose orders meet these contracts. Proved as `enginesCompare`
+abbrev pub EnginesCompare : Type 0
+EnginesCompare =
+    (b : List ℕ) (xs ys : List (List ℕ)) (s t : Session) (a d : List ℕ) → Run (bookOf b) Session current (Holds b) xs s a
+    → Run (bookOf b) Session current (Holds b) ys t d → Demand3 (bookOf b) Session current (Holds b) xs ys s t a d
+
+-- the same of the lists x and y as bytes, which the run's loop left with the sessions s and t, and whose answers stand in the spaces a and d
 abbrev pub Compares : (b x y : List ℕ) → Session → Session → List ℕ → List ℕ → Type 0
 Compares b x y s t a d =
     Demand3 (bookOf b) Session current (Holds b) (ordersOf x) (ordersOf y) s t (answerAt a (length x / 8)) (answerAt d (length y / 8))

@@ -2,3 +2,4 @@
 pub mod pair;
 pub mod run;
 pub mod shown;
+pub mod step;

@@ -23,10 +23,10 @@ use Rattle.book.specs.Verdicts.{Accepted}
 use Rattle.book.proofs.Decoded.{accepted-right}
 use Rattle.book.proofs.Right.{columns-range, sheets-most}
 use Rattle.words.proofs.Places.{column-below, column-once}
-use Rattle.engine.specs.Propagation.{storeIn}
+use Rattle.engine.specs.Propagation.{isOpen, storeIn}
 use Rattle.engine.proofs.Turns.{at-sheet, columns-count, store-in}
 use Rattle.answers.specs.Parts.{answerOf}
-use Rattle.answers.specs.Shows.{SheetMasks, Shows, doneFrom, fewOpen, isOpen, openColumns, statusFrom}
+use Rattle.answers.specs.Shows.{SheetMasks, Shows, doneFrom, fewOpen, openColumns, statusFrom}
 use Rattle.answers.proofs.Counts.{OneToOne, count-same, not-many, same-many}
 use Rattle.answers.proofs.Overs.{domainBytes-same}
 

@@ -11,6 +11,7 @@ use Rattle.model.specs.Masks.{maskOf, size}
 use Rattle.model.specs.Stores.{IsStore}
 use Rattle.book.specs.Head.{columnsOf, sheetsOf}
 use Rattle.engine.specs.Layouts.{ColumnsIn}
+use Rattle.engine.specs.Propagation.{isOpen}
 
 -- D are settled domains: those of the columns, and nothing past the last
 pub record Shows (b D : List ℕ) : Type 0 where
@@ -25,10 +26,6 @@ pub record SheetMasks (b M : List ℕ) : Type 0 where
   pub columns : (s : ℕ) → s < sheetsOf b → ColumnsIn b s (getD M s 0)
 
 -- ---- from masks
--- column c is open: it "holds more than one value"
-unfoldable pub isOpen : List ℕ → ℕ → Bool
-isOpen D c = ltb 1 (size (getD D c 0))
-
 -- the open columns, bit c for column c
 abbrev pub openColumns : List ℕ → ℕ
 openColumns D = maskOf 16 (isOpen D)

@@ -3,9 +3,10 @@ use mathlib.Core.Path.{_≡_}
 use mathlib.Core.Bool.{Bool, true, false}
 use mathlib.Core.List.{List}
 use Prim.Native.Nat.{ℕ, _≤_, _<_}
+use lib.Dec.{ltb}
 use lib.ListN.{getD}
 use Rattle.model.specs.Tests.{tab}
-use Rattle.model.specs.Masks.{bit}
+use Rattle.model.specs.Masks.{bit, size}
 use Rattle.model.specs.Stores.{has, IsStore, emptyStore}
 use Rattle.model.specs.Books.{closure, columnCount}
 use Rattle.model.specs.States.{Arrays, StateOf}
@@ -16,6 +17,10 @@ use Rattle.words.specs.Sheets.{Sized, IndexOf, SheetKnown, AllCarried}
 -- the store in an array of sixteen domains: those of the book's columns
 abbrev pub storeIn : List ℕ → List ℕ → List ℕ
 storeIn b D = tab (columnsOf b) (λ c. getD D c 0)
+
+-- column c of such an array "holds more than one value"
+unfoldable pub isOpen : List ℕ → ℕ → Bool
+isOpen D c = ltb 1 (size (getD D c 0))
 
 -- the closure of that store
 abbrev pub closureIn : List ℕ → List ℕ → List ℕ

@@ -24,13 +24,13 @@ use Rattle.model.proofs.Tests.{below, either, getD-tab, getD-tab-out, length-ta
 use Rattle.book.specs.Decoding.{bookOf}
 use Rattle.book.specs.Head.{columnsOf}
 use Rattle.book.specs.Verdicts.{Accepted}
-use Rattle.book.proofs.Right.{columns-range}
 use Rattle.book.proofs.Decoded.{accepted-right}
-use Rattle.engine.specs.Propagation.{storeIn}
+use Rattle.book.proofs.Right.{columns-range}
+use Rattle.words.proofs.Walks.{split}
+use Rattle.engine.specs.Propagation.{isOpen, storeIn}
 use Rattle.engine.proofs.Turns.{columns-count}
 use Rattle.engine.proofs.Worklists.{zeros-at}
-use Rattle.words.proofs.Walks.{split}
-use Rattle.search.specs.Searches.{FilledState, FoundIs, OpenValue, isFound, isOpen, solutionAfter, solutionIn}
+use Rattle.search.specs.Searches.{FilledState, FoundIs, OpenValue, isFound, solutionAfter, solutionIn}
 use Rattle.search.specs.declared.Found.{Found}
 use Rattle.search.proofs.Filled.{book-formed, filled-consistent, filled-same, filled-store, open-inside, same-has, single-below, some-value}
 

@@ -30,11 +30,11 @@ use Rattle.book.specs.Head.{columnsOf}
 use Rattle.book.specs.Verdicts.{Accepted}
 use Rattle.book.proofs.Decoded.{accepted-right, right-formed}
 use Rattle.engine.specs.Layouts.{LayoutOf}
-use Rattle.engine.specs.Propagation.{Propagated, Ready, closureIn, storeIn}
+use Rattle.engine.specs.Propagation.{Propagated, Ready, closureIn, isOpen, storeIn}
 use Rattle.engine.specs.Worklists.{WaitingFor}
 use Rattle.engine.proofs.Narrowings.{met-closure, met-store, narrow-ready}
 use Rattle.engine.proofs.Turns.{columns-count, store-in}
-use Rattle.search.specs.Searches.{FilledState, FoundIs, OpenValue, isOpen, solutionAfter, solutionIn}
+use Rattle.search.specs.Searches.{FilledState, FoundIs, OpenValue, solutionAfter, solutionIn}
 use Rattle.search.specs.declared.Found.{Found}
 
 -- how many values are left: what falls as the search goes deeper

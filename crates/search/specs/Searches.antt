@@ -1,21 +1,19 @@
 -- The search of a finish: what it starts from, and what it gives.
 use mathlib.Core.Path.{_≡_}
-use mathlib.Core.Bool.{Bool, true, false}
+use mathlib.Core.Bool.{Bool, false, true}
 use mathlib.Core.Option.{Option, none, some}
 use mathlib.Core.List.{List}
-use Prim.Native.Nat.{ℕ, _<_}
-use lib.Dec.{ltb}
+use Prim.Native.Nat.{_<_, ℕ}
 use lib.ListN.{getD}
-use Rattle.model.specs.Tests.{tab}
-use Rattle.model.specs.Masks.{size}
-use Rattle.model.specs.Stores.{has}
-use Rattle.model.specs.Solutions.{firstSolution}
-use Rattle.model.specs.Search.{after}
-use Rattle.model.specs.Orders.{Entry, domains}
 use Rattle.model.specs.Answers.{solutionMasks}
-use Rattle.book.specs.Head.{columnsOf}
+use Rattle.model.specs.Orders.{Entry, domains}
+use Rattle.model.specs.Search.{after}
+use Rattle.model.specs.Solutions.{firstSolution}
+use Rattle.model.specs.Stores.{has}
+use Rattle.model.specs.Tests.{tab}
 use Rattle.book.specs.Decoding.{bookOf}
-use Rattle.engine.specs.Propagation.{storeIn}
+use Rattle.book.specs.Head.{columnsOf}
+use Rattle.engine.specs.Propagation.{isOpen, storeIn}
 use Rattle.engine.specs.Sessions.{StateIs}
 use Rattle.engine.specs.declared.state.State.{State}
 use Rattle.search.specs.declared.Found.{Found}
@@ -44,10 +42,6 @@ abbrev pub Finishes : List ℕ → State → Found → Type 0
 Finishes b st f = (L : List Entry) → StateIs b L st → FoundIs b (firstSolution (bookOf b) (domains (bookOf b) L)) f
 
 -- ---- what the search stands at
--- column c has two values or more. Where no column is empty: it "isn't single"
-unfoldable pub isOpen : List ℕ → ℕ → Bool
-isOpen D c = ltb 1 (size (getD D c 0))
-
 -- the arrays are the state of some trail, and it is not failed
 pub record FilledState (b D W X N : List ℕ) : Type 0 where
   pub stands : List Entry

@@ -16,8 +16,9 @@ ghost use Rattle.model.specs.Tests.{FirstIn};
 ghost use Rattle.model.specs.Masks.{bit, Cleared};
 ghost use Rattle.book.specs.Verdicts.{Accepted};
 ghost use Rattle.engine.specs.Layouts.{LayoutOf};
+ghost use Rattle.engine.specs.Propagation.{isOpen};
 ghost use Rattle.engine.specs.Sessions.{SomeState};
-ghost use Rattle.search.specs.Searches.{FoundIs, solutionIn, solutionAfter, Finishes, isOpen, FilledState, OpenValue};
+ghost use Rattle.search.specs.Searches.{FoundIs, solutionIn, solutionAfter, Finishes, FilledState, OpenValue};
 
 // What a search finds: whether there is a solution, and its values, one bit for each column.
 pub struct Found {

@@ -1,7 +1,11 @@
 -- The worked examples of the calls, by computation. Assumes nothing.
 use mathlib.Core.Path.{refl}
+use Rattle.model.specs.Answers.{domainBytes}
+use Rattle.model.proofs.Acceptance.{computing as orders-computing}
 use Rattle.book.proofs.Acceptance.{computing}
-use Rattle.service.specs.Acceptance.{CheckFacts}
+use Rattle.runs.specs.Spaces.{allBytes}
+use Rattle.runs.specs.Results.{runRefusal, runResult, runSpace, wrongList}
+use Rattle.service.specs.Acceptance.{CheckFacts, RunFacts}
 
 pub checkFacts : CheckFacts
 unfolding computing
@@ -16,4 +20,18 @@ checkFacts = record {
   last-zero = refl;
   block-too-many = refl;
   large-value = refl;
+}
+
+pub runFacts : RunFacts
+unfolding computing orders-computing domainBytes wrongList runRefusal runResult runSpace allBytes
+runFacts = record {
+  no-book = refl;
+  ragged = refl;
+  orders-256 = refl;
+  orders-257 = refl;
+  short-space = refl;
+  exact-space = refl;
+  two-accepted = refl;
+  four-answers = refl;
+  nothing-written = refl;
 }

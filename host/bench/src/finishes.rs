@@ -17,7 +17,7 @@ pub fn table() {
     }
     let heads = heads("µs");
     println!("| book | full set | tries | {heads} | Gecode µs | library / Gecode |");
-    println!("|---|---|---:|---:|---:|---:|---:|---:|---:|---:|");
+    println!("|---|---|---:|---:|---:|---:|---:|---:|---:|---:|---:|");
     for hard in hard::books() {
         row(&hard);
     }

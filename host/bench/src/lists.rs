@@ -19,7 +19,7 @@ pub fn table() {
         "| book | orders | {heads} | Gecode µs | library / Gecode | Gecode with its tables µs \
          | library / that |"
     );
-    println!("|---|---:|---:|---:|---:|---:|---:|---:|---:|---:|---:|");
+    println!("|---|---:|---:|---:|---:|---:|---:|---:|---:|---:|---:|---:|");
     for subject in &subjects {
         row(subject, &subject.short);
         row(subject, &subject.long);

@@ -13,7 +13,7 @@ pub fn table() {
     let subjects = subjects();
     agree(&subjects);
     println!("| book | what | {} |", heads("ns"));
-    println!("|---|---|---:|---:|---:|---:|---:|");
+    println!("|---|---|---:|---:|---:|---:|---:|---:|");
     for subject in &subjects {
         rows(subject);
     }
@@ -64,7 +64,7 @@ fn agree(subjects: &[Subject]) {
     }
     println!(
         "\nLibrary and engines agree on these lists and on {AGREEMENTS} seeded ones. The hand-written \
-         engine is there twice: with its valid rows packed, and with them in words, as the library \
-         has them. The library is compared with the faster one of the row.\n"
+         engine is there twice: with its valid rows in words, as the scope paper and the library \
+         have them, and with them packed into lists.\n"
     );
 }

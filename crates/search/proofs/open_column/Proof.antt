@@ -4,7 +4,7 @@ use native.Mathlib.Omega.{arith}
 use borrow.Author.Needs.{needs}
 use Rattle.model.specs.Tests.{NoneIn}
 use Rattle.model.proofs.Firsts.{firstIn-end, firstIn-found, none-empty, none-more}
-use Rattle.search.specs.Searches.{isOpen}
+use Rattle.engine.specs.Propagation.{isOpen}
 use Rattle.search.proofs.open_column.Statement.{statement}
 use Rattle.search.proofs.open_column.Tie as tie
 

@@ -3,7 +3,7 @@ use Prim.Native.Nat.{_-_, _≤_}
 use native.Mathlib.Omega.{arith}
 use borrow.Author.Needs.{needs}
 use Rattle.model.specs.Masks.{maskOf}
-use Rattle.answers.specs.Shows.{isOpen}
+use Rattle.engine.specs.Propagation.{isOpen}
 use Rattle.answers.proofs.Counts.{mask-more, mask-none}
 use Rattle.answers.proofs.status.open_columns.Statement.{statement}
 use Rattle.answers.proofs.status.open_columns.Tie as tie

@@ -1,3 +1,4 @@
+use native.Mathlib.Omega.{arith}
 use borrow.Author.Needs.{needs}
 use Rattle.runs.proofs.Promises.{right-list}
 use Rattle.runs.proofs.Runs.{ran-compares}
@@ -8,10 +9,10 @@ lay-out-requires : tie.Need-lay-out-requires
 lay-out-requires c κs = search needs
 
 run-orders-requires : tie.Need-run-orders-requires
-run-orders-requires c κs = (c .before .before .before .before .before .before .before .before .before .before .before .pre .0 .book, c .before .before .before .lay-out .ensures, right-list _ (c .before .before .before .before .before .before .before .before .before .before .before .pre .0 .list), c .before .before .before .before .before .before .before .before .before .before .before .pre .0 .enough)
+run-orders-requires c κs = (c .before .before .before .before .before .before .before .before .before .before .before .pre .0 .book, c .before .before .before .lay-out .ensures, omega (arith, right-list _ (c .before .before .before .before .before .before .before .before .before .before .before .pre .0 .list)), omega (arith, c .before .before .before .before .before .before .before .before .before .before .before .pre .0 .enough))
 
 run-orders-requires-2 : tie.Need-run-orders-requires-2
-run-orders-requires-2 c κs = (c .before .before .before .before .before .before .before .before .before .before .before .before .before .before .before .before .before .pre .0 .book, c .before .before .before .before .before .before .before .before .before .lay-out .ensures, right-list _ (c .before .before .before .before .before .before .before .before .before .before .before .before .before .before .before .before .before .pre .1 .list), c .before .before .before .before .before .before .before .before .before .before .before .before .before .before .before .before .before .pre .1 .enough)
+run-orders-requires-2 c κs = (c .before .before .before .before .before .before .before .before .before .before .before .before .before .before .before .before .before .pre .0 .book, c .before .before .before .before .before .before .before .before .before .lay-out .ensures, omega (arith, right-list _ (c .before .before .before .before .before .before .before .before .before .before .before .before .before .before .before .before .before .pre .1 .list)), omega (arith, c .before .before .before .before .before .before .before .before .before .before .before .before .before .before .before .before .before .pre .1 .enough))
 
 same-length : tie.Need-same-length
 same-length c = search needs

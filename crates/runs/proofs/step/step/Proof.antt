@@ -29,7 +29,7 @@ same-length-2 : tie.Need-same-length-2
 same-length-2 c = search needs
 
 returns-2 : tie.Need-returns-2
-returns-2 c = step-finishes _ (c .before .before .before .before .before .before .before .before .before .refusal .ensures) (c .before .before .before .before .before .before .before .before .step .ensures) _ (c .before .before .before .before .before .before .before .before .before .before .before .before .before .pre .4) (c .before .before .before .before .if2 .taken) (c .before .before .before .before .before .before .if1 .left) (c .before .before .show-finish .ensures)
+returns-2 c = step-finishes _ (c .before .before .before .before .before .before .before .before .before .refusal .ensures) (c .before .before .before .before .before .before .before .before .step .ensures) _ (c .before .before .before .before .before .before .before .before .before .before .before .before .before .pre .4) (omega (arith, c .before .before .before .before .if2 .taken)) (c .before .before .before .before .before .before .if1 .left) (c .before .before .show-finish .ensures)
 
 show-requires-2 : tie.Need-show-requires-2
 show-requires-2 c κs = let q = step-small _ (c .before .before .before .before .before .before .refusal .ensures) (c .before .before .before .before .before .step .ensures) (c .before .before .before .before .before .before .before .before .before .before .pre .2) in (c .before .before .before .before .before .before .before .before .before .before .pre .0, c .before .before .before .before .before .before .before .before .before .before .pre .1, q .1, omega arith, omega (arith, c .before .before .before .before .before .before .before .before .before .before .pre .4), omega arith, q .0)
@@ -38,7 +38,7 @@ same-length-3 : tie.Need-same-length-3
 same-length-3 c = search needs
 
 returns-3 : tie.Need-returns-3
-returns-3 c = step-shows-0 _ (c .before .before .before .before .before .before .before .before .before .refusal .ensures) (c .before .before .before .before .before .before .before .before .step .ensures) _ (c .before .before .before .before .before .before .before .before .before .before .before .before .before .pre .4) (c .before .before .before .before .before .before .if1 .left) (c .before .before .before .before .if2 .left) (c .before .before .show2 .ensures)
+returns-3 c = step-shows-0 _ (c .before .before .before .before .before .before .before .before .before .refusal .ensures) (c .before .before .before .before .before .before .before .before .step .ensures) _ (c .before .before .before .before .before .before .before .before .before .before .before .before .before .pre .4) (c .before .before .before .before .before .before .if1 .left) (λ k. omega (arith, k, c .before .before .before .before .if2 .left)) (c .before .before .show2 .ensures)
 
 pub step-spec : {M : Type 1} → statement M
 step-spec =

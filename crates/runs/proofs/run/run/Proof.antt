@@ -1,4 +1,5 @@
 use mathlib.Core.Path.{_∙_, sym}
+use native.Mathlib.Omega.{arith}
 use borrow.Author.Needs.{needs}
 use Rattle.runs.proofs.Promises.{book-refused, list-refused, right-list, space-short}
 use Rattle.runs.proofs.run.run.Statement.{statement}
@@ -26,10 +27,10 @@ add-result : tie.Need-add-result
 add-result c = let l = right-list _ (sym (c .before .before .wrong-list .ensures) ∙ c .before .if2 .left) in search (needs, l)
 
 returns-3 : tie.Need-returns-3
-returns-3 c = space-short _ _ _ (c .before .before .before .before .check .ensures) (c .before .before .before .if1 .left) (c .before .before .wrong-list .ensures) (c .before .if2 .left) (c .if3 .taken)
+returns-3 c = space-short _ _ _ (c .before .before .before .before .check .ensures) (c .before .before .before .if1 .left) (c .before .before .wrong-list .ensures) (c .before .if2 .left) (omega (arith, c .if3 .taken))
 
 run-right-requires : tie.Need-run-right-requires
-run-right-requires c κs = record { book = rw (← c .before .before .before .before .before .check .ensures) (c .before .before .before .before .if1 .left); list = sym (c .before .before .before .wrong-list .ensures) ∙ c .before .before .if2 .left; enough = c .before .if3 .left }
+run-right-requires c κs = record { book = rw (← c .before .before .before .before .before .check .ensures) (c .before .before .before .before .if1 .left); list = sym (c .before .before .before .wrong-list .ensures) ∙ c .before .before .if2 .left; enough = omega (arith, c .before .if3 .left) }
 
 same-length : tie.Need-same-length
 same-length c = search needs

@@ -47,7 +47,7 @@ add-i : tie.Need-add-i Inv-loop μ-loop
 add-i c = search needs
 
 show-requires : tie.Need-show-requires Inv-loop μ-loop
-show-requires c κs = (c .before .before .before .before .before .before .before .before .before .before .before .before .before .before .pre .0, c .before .before .before .before .before .before .before .before .before .before .before .before .before .before .pre .1, record { stands = _; is = c .before .before .before .before .before .before .loop .inv .0 .holds .current }, omega (arith, c .before .before .before .before .before .loop-test .taken, c .before .before .before .before .before .before .before .before .before .before .before .before .before .before .pre .2), omega (arith, c .before .before .before .before .before .loop-test .taken, c .before .before .before .before .before .before .loop .inv .2, ran-room _ _ _ (c .before .before .before .before .before .before .loop .inv .0) (omega (arith, c .before .before .before .before .before .before .loop .inv .1, c .before .before .before .before .before .before .loop .inv .2))), refuses-small _ (c .before .before .before .before .before .before .loop .inv .0 .holds) (c .before .before .refusal .ensures), omega (arith, depth-small (c .before .before .before .before .before .before .loop .inv .0 .holds)))
+show-requires c κs = (c .before .before .before .before .before .before .before .before .before .before .before .before .before .before .pre .0, c .before .before .before .before .before .before .before .before .before .before .before .before .before .before .pre .1, record { stands = _; is = c .before .before .before .before .before .before .loop .inv .0 .holds .current }, omega (arith, c .before .before .before .before .before .loop-test .taken, c .before .before .before .before .before .before .before .before .before .before .before .before .before .before .pre .2), omega (arith, c .before .before .before .before .before .loop-test .taken, c .before .before .before .before .before .before .loop .inv .2, ran-room _ _ _ (c .before .before .before .before .before .before .loop .inv .0) (omega (arith, c .before .before .before .before .before .before .loop .inv .1, c .before .before .before .before .before .before .loop .inv .2))), omega (arith, refuses-small _ (c .before .before .before .before .before .before .loop .inv .0 .holds) (c .before .before .refusal .ensures)), omega (arith, depth-small (c .before .before .before .before .before .before .loop .inv .0 .holds)))
 
 loop-less : tie.Need-loop-less Inv-loop μ-loop
 loop-less c = search needs

@@ -9,13 +9,13 @@ check-requires : tie.Need-check-requires
 check-requires c κs = search needs
 
 returns : tie.Need-returns
-returns c = book-refused _ _ _ (c .before .check .ensures) (c .if1 .taken)
+returns c = book-refused _ _ _ (c .before .check .ensures) (omega (arith, c .if1 .taken))
 
 wrong-list-requires : tie.Need-wrong-list-requires
 wrong-list-requires c κs = search needs
 
 returns-2 : tie.Need-returns-2
-returns-2 c = list-refused _ _ _ (c .before .before .before .check .ensures) (c .before .before .if1 .left) (c .before .wrong-list .ensures) (c .if2 .taken)
+returns-2 c = list-refused _ _ _ (c .before .before .before .check .ensures) (omega (arith, c .before .before .if1 .left)) (c .before .wrong-list .ensures) (c .if2 .taken)
 
 add-needed : tie.Need-add-needed
 add-needed c = search needs

@@ -6,7 +6,6 @@ use mathlib.Core.List.{List}
 use Prim.Native.Nat.{_<_, _≤_, suc, zero, ℕ}
 use native.Mathlib.Omega.{arith}
 use lib.ListN.{List·getD-eq-default, getD, length}
-use lib.Seq.{ext-getD}
 use Rattle.model.specs.Answers.{answerBytes, finishing, outcomeOf, showing, solutionMasks}
 use Rattle.model.specs.Books.{ConsistentStore, columnCount}
 use Rattle.model.specs.Masks.{bit}
@@ -15,7 +14,6 @@ use Rattle.model.specs.Solutions.{firstSolution}
 use Rattle.model.specs.Stores.{emptyStore, has}
 use Rattle.model.proofs.Books.{closed-or-empty}
 use Rattle.model.proofs.Masks.{bit-of-zero}
-use Rattle.model.proofs.Tests.{getD-tab, length-tab}
 use Rattle.model.proofs.Trails.{allowed-store, domains-store}
 use Rattle.book.specs.Decoding.{bookOf}
 use Rattle.book.specs.Head.{columnsOf}
@@ -26,7 +24,7 @@ use Rattle.engine.specs.Propagation.{storeIn}
 use Rattle.engine.specs.Sessions.{StateIs}
 use Rattle.engine.specs.declared.state.State.{State}
 use Rattle.engine.proofs.Emptied.{no-value}
-use Rattle.engine.proofs.Turns.{columns-count}
+use Rattle.engine.proofs.Turns.{columns-count, store-is}
 use Rattle.answers.specs.Parts.{answerOf, finishAnswer, stateAnswer}
 use Rattle.answers.specs.Shows.{SheetMasks, Shows}
 use Rattle.answers.proofs.Overs.{domainBytes-same}
@@ -45,11 +43,7 @@ module _ {b : List ℕ} {L : List Entry} {st : State} (h : StateIs b L st) where
 
   -- the state's array has the current domains
   pub state-store : storeIn b (st .dom) ≡ domains (bookOf b) L
-  state-store =
-      ext-getD 0 (storeIn b (st .dom)) (domains (bookOf b) L) (length-tab (columnsOf b) _ ∙ sym size)
-      (λ c l.
-      getD-tab 0 (columnsOf b) (λ c. getD (st .dom) c 0) c (omega (arith, length-tab (columnsOf b) (λ c. getD (st .dom) c 0)))
-      ∙ h .holds .domain c)
+  state-store = store-is b (st .dom) (domains (bookOf b) L) (domains-store (bookOf b) L) (h .holds .domain)
 
   pub state-shows : Accepted b → Shows b (st .dom)
   unfolding domains has

@@ -20,7 +20,7 @@ use Rattle.book.specs.Rows.{blockOf, blocksNeeded, blocksOf, boundOf, cl
 use Rattle.book.specs.Verdicts.{Accepted, checkResult, refused}
 use Rattle.book.proofs.Faults.{clean-none, fault-zero, firstBlock-later}
 use Rattle.book.proofs.Results.{result-accepted, result-blocks, result-check, result-field, result-length, result-row, right-length}
-use Rattle.book.proofs.Right.{column-inside, column-rises, columns-range, few-sheets, rows-most, sheets-most, values-range, width-range}
+use Rattle.book.proofs.Right.{column-inside, column-rises, columns-range, rows-most, sheets-most, values-range, width-range}
 
 -- ---- nothing is wrong
 pub record RightBook (b : List ℕ) : Type 0 where

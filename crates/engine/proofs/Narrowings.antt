@@ -3,7 +3,7 @@ use mathlib.Core.Path.{_∙_, _≡_, ap, refl, subst, sym}
 use mathlib.Core.Bool.{Bool, _&&_, _||_, false, false≢true, not, true}
 use mathlib.Core.Logic.{_⊎_, inl, inr}
 use mathlib.Core.List.{List, [], _++_, _∷_}
-use Prim.Native.Nat.{_%_, _*_, _+_, _/_, _<_, _^_, suc, zero, ℕ}
+use Prim.Native.Nat.{_%_, _*_, _+_, _/_, _<_, _^_, ℕ}
 use native.Mathlib.Nat.{lt-of-le-of-lt}
 use native.Mathlib.Omega.{arith}
 use lib.Bits.{and-le-l, and-zero-l, bitAnd}
@@ -20,7 +20,7 @@ use Rattle.model.proofs.Books.{closed-or-empty, stays-iff}
 use Rattle.model.proofs.Masks.{bit-of-zero, bit-pow, some-bit}
 use Rattle.model.proofs.Rows.{support-iff, word-row}
 use Rattle.model.proofs.Stores.{in-store, meet-has, meet-store, store-ext}
-use Rattle.model.proofs.Tests.{and-i, and-l, and-r, either, getD-tab, or-l}
+use Rattle.model.proofs.Tests.{and-i, and-l, and-r, either, getD-tab, or-l, positive}
 use Rattle.model.proofs.Trails.{allowed-store, domains-closed, domains-store, narrow-domains}
 use Rattle.book.specs.Decoding.{bookOf}
 use Rattle.book.specs.Head.{columnOf, columnsOf, sheetsOf}
@@ -208,10 +208,6 @@ module _ (b : List ℕ) (acc : Accepted b) (L : List Entry) {D W X N : List ℕ}
               let y = eqb-true c k e in
               let p = some-bit 32 (bitAnd (getD D c 0) m) (lt-of-le-of-lt (and-le-l (getD D c 0) m) (d .bits c)) (positive (bitAnd (getD D c 0) m) left) in
               (p .0, rw (← y) (ap (bit (p .0)) (getD-set-same D c (bitAnd (getD D c 0) m) 0 (omega (arith, small, d .columns))) ∙ p .2))
-            where
-              positive : (x : ℕ) → (x ≡ 0 → ⊥) → 0 < x
-              positive zero f = absurd (f refl)
-              positive (suc x) f = omega arith
           filled k q (inr e) =
               let p = stood .filled k (omega (arith, columns-count b)) in
               (p .0, met-has k (p .0) ∙ and-i (same-has k (p .0) ∙ p .1) (or-l (not (eqb c k)) _ (ap not e)))

@@ -1,10 +1,10 @@
 -- Laws of the session and of one order. Assumes nothing.
 -- ---- the bytes of an order
-use mathlib.Core.Path.{_∙_, _≡_, ap, refl, subst, subst⁻¹, sym}
+use mathlib.Core.Path.{_∙_, _≡_, ap, subst, subst⁻¹, sym}
 use mathlib.Core.Bool.{Bool, _&&_, false, not, true}
 use mathlib.Core.Logic.{_⊎_, inl, inr}
 use mathlib.Core.List.{List, [], _++_, _∷_}
-use Prim.Native.Nat.{_+_, _-_, _<_, _^_, _≤_, suc, zero, ℕ}
+use Prim.Native.Nat.{_+_, _-_, _<_, _^_, _≤_, suc, ℕ}
 use native.Mathlib.Nat.{lt-of-le-of-lt}
 use native.Mathlib.Omega.{arith}
 use lib.Arith.{lt-of-le-ne}
@@ -19,7 +19,7 @@ use Rattle.model.specs.Tests.{NoneIn, anyBelow}
 use Rattle.model.proofs.Firsts.{none-any}
 use Rattle.model.proofs.Masks.{bit-and, bit-of-zero, some-bit}
 use Rattle.model.proofs.Refusals.{accepted-back, accepted-mark, accepted-narrow, push-back, push-ind, push-mark, push-narrow, push-refused}
-use Rattle.model.proofs.Tests.{and-false, and-true, anyBelow-i, anyBelow-none, below, either}
+use Rattle.model.proofs.Tests.{and-false, and-true, anyBelow-i, anyBelow-none, below, either, positive}
 use Rattle.model.proofs.Trails.{before-append, before-before, before-new, depth-before, depth-checkpoint, depth-narrowed, domains-checkpoint}
 use Rattle.book.specs.Decoding.{bookOf}
 use Rattle.book.specs.Head.{columnsOf, valuesOf}
@@ -90,10 +90,6 @@ outside-mask b acc c m p v l fits ev ep = rw (count-at b c l) (go (either (eqb (
         let x = bitAnd m (4294967295 - p) in
         let s = some-bit 32 x (lt-of-le-of-lt (and-le-l m (4294967295 - p)) fits) (positive x (eqb-false x 0 e)) in
         ap not e ∙ sym (anyBelow-i 32 (λ u. leb (valuesOf b c) u && bit u m) (s .0) (s .1) (sym (bits (s .0) (s .1)) ∙ s .2))
-      where
-        positive : (x : ℕ) → (x ≡ 0 → ⊥) → 0 < x
-        positive zero f = absurd (f refl)
-        positive (suc x) f = omega arith
 
 -- ---- the methods
 -- the same domains, the same state

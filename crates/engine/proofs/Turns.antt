@@ -9,7 +9,7 @@ use native.Mathlib.Omega.{arith}
 use lib.Bits.{bitOr}
 use lib.Dec.{eqb}
 use lib.ListN.{getD, getD-replicate, length, length-replicate, replicate, set}
-use lib.Seq.{getD-set-other}
+use lib.Seq.{ext-getD, getD-set-other}
 use borrow.Author.Tests.{eq-eqb, eqb-false, eqb-true, ne-eqb}
 use Rattle.model.specs.Books.{ConsistentStore, Sheet, closure, columnCount, supported}
 use Rattle.model.specs.Closure.{Between, Consistent}
@@ -81,6 +81,15 @@ module _ (b : List ℕ) where
       go (inr l) =
           mask-ext 32 (getD D c 0) 0 (d .bits c) (omega arith) (λ v q. empty l v (either (bit v (getD D c 0))))
           ∙ sym (getD-tab-out (columnsOf b) (λ c. getD D c 0) c l)
+
+-- the store in an array whose entries are those of the store E
+pub store-is : (b D E : List ℕ) → IsStore (columnCount (bookOf b)) E → ((c : ℕ) → getD D c 0 ≡ getD E c 0) → storeIn b D ≡ E
+store-is b D E e h =
+    ext-getD 0 (storeIn b D) E (long ∙ sym (columns-count b) ∙ sym (e .columns))
+    (λ c l. getD-tab 0 (columnsOf b) (λ c. getD D c 0) c (omega (arith, long)) ∙ h c)
+  where
+    long : length (storeIn b D) ≡ columnsOf b
+    long = length-tab (columnsOf b) (λ c. getD D c 0)
 
 -- ---- facts that go over to other arrays
 pub valid-within : {b : List ℕ} {first s : ℕ} → AtSheet b first s → {B D : List ℕ} → Within B D → (r : ℕ)

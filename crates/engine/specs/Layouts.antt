@@ -5,7 +5,7 @@ use mathlib.Core.Path.{_≡_}
 use mathlib.Core.Bool.{true}
 use mathlib.Core.List.{List}
 use Prim.Native.Nat.{ℕ, _≤_, _<_}
-use lib.ListN.{length, getD}
+use lib.ListN.{getD}
 use Rattle.model.specs.Masks.{bit}
 use Rattle.book.specs.Head.{columnOf, sheetsOf, widthOf}
 use Rattle.words.specs.Sheets.{firstByte}

@@ -1,6 +1,6 @@
 // What the engine keeps of a book's head: where the rows of each sheet begin, and its columns as a mask.
 ghost use mathlib.Core.Path.{_≡_};
-ghost use Prim.Native.Nat.{_+_, _*_, _<_, _≤_};
+ghost use Prim.Native.Nat.{_+_, _*_, _<_};
 ghost use lib.ListN.{replicate};
 ghost use Rattle.book.specs.Verdicts.{Accepted};
 ghost use Rattle.book.specs.Head.{sheetsOf};

@@ -2,8 +2,7 @@
 use crate::session::*;
 use crate::state::*;
 ghost use mathlib.Core.Path.{_≡_};
-ghost use mathlib.Core.List.{[]};
-ghost use Prim.Native.Nat.{_+_, _*_, _/_, _<_, _≤_};
+ghost use Prim.Native.Nat.{_+_, _<_, _≤_};
 ghost use lib.ListN.{length};
 ghost use Rattle.model.specs.Orders.{nonzero, mask, outside};
 ghost use Rattle.book.specs.Verdicts.{Accepted};

@@ -2,11 +2,8 @@
 use crate::worklist::*;
 ghost use mathlib.Core.Path.{_≡_};
 ghost use mathlib.Core.Bool.{true, false};
-ghost use Prim.Native.Nat.{_+_, _*_, _<_, _≤_};
-ghost use lib.ListN.{getD, replicate};
-ghost use Rattle.model.specs.Stores.{IsStore};
+ghost use lib.ListN.{replicate};
 ghost use Rattle.book.specs.Verdicts.{Accepted};
-ghost use Rattle.words.specs.Sheets.{Sized};
 ghost use Rattle.engine.specs.Layouts.{LayoutOf};
 ghost use Rattle.engine.specs.Propagation.{Ready, Propagated, Settled};
 
@@ -37,7 +34,7 @@ pub fn propagate(
         if limit[s] == 0 {
             return false;
         }
-        left = wake(mask, &mut changed, others_waiting(left), s, lost);
+        left = wake(mask, &mut changed, words::bits::others(left), s, lost);
     }
     true
 }

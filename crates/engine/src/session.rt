@@ -7,9 +7,8 @@
 // Always, for the trail that stands: `now` is its state, `depth` its number of checkpoints, and saved state k is that of the trail cut before
 // checkpoint k + 1, with its words, index and limits.
 use crate::state::*;
-ghost use mathlib.Core.Path.{_≡_};
 ghost use mathlib.Core.List.{[]};
-ghost use Prim.Native.Nat.{_+_, _*_, _<_, _≤_};
+ghost use Prim.Native.Nat.{_+_, _<_, _≤_};
 ghost use Rattle.book.specs.Verdicts.{Accepted};
 ghost use Rattle.book.specs.Head.{columnsOf};
 ghost use Rattle.engine.specs.Layouts.{LayoutOf};

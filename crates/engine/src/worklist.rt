@@ -4,10 +4,10 @@
 //     changed    | columns that sheet 0 has not seen change | sheet 1 | ..
 ghost use mathlib.Core.Path.{_≡_};
 ghost use mathlib.Core.Bool.{true};
-ghost use Prim.Native.Nat.{_+_, _*_, _^_, _<_, _≤_};
+ghost use Prim.Native.Nat.{_<_};
 ghost use lib.Count.{trailingZeros};
 ghost use lib.ListN.{getD, length};
-ghost use Rattle.model.specs.Masks.{bit, Cleared};
+ghost use Rattle.model.specs.Masks.{bit};
 ghost use Rattle.engine.specs.Worklists.{waitsBit, WaitingFor, Added, Woken};
 
 // The lowest sheet that waits.
@@ -16,14 +16,6 @@ pub fn first_waiting(waiting: u32) -> usize
     ensures { λ r. ⌜ (r ≡ trailingZeros 32 waiting) × (r < 8) × (bit r waiting ≡ true) ⌝ }
 {
     u32::trailing_zeros(waiting) as usize
-}
-
-// The other sheets that wait.
-pub fn others_waiting(waiting: u32) -> u32
-    requires { ⌜ 0 < waiting ⌝ }
-    ensures { λ r. ⌜ Cleared waiting r (trailingZeros 32 waiting) × (r < waiting) ⌝ }
-{
-    waiting & (waiting - 1)
 }
 
 // Sheet f, which has these columns, as a bit, if one of them is in `lost`.

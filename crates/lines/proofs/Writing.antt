@@ -8,7 +8,8 @@ use lib.ListN.{length, take, set, getD, length-append, length-set}
 use lib.Seq.{take-suc, take-length, take-suc-set}
 use borrow.Author.Tests.{lt-ltb, le-ltb}
 use Rattle.book.specs.Fields.{wordAt}
-use Rattle.lines.specs.Texts.{field, domainFields, answerLine, answerAt, answerLines, acceptedLine, refusedLine, printed}
+use Rattle.model.specs.Answers.{answerAt}
+use Rattle.lines.specs.Texts.{field, domainFields, answerLine, answerLines, acceptedLine, refusedLine, printed}
 use Rattle.lines.specs.Written.{Written}
 
 -- nothing is written yet

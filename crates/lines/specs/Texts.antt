@@ -6,7 +6,7 @@ use Prim.Native.Nat.{ℕ, zero, suc, _+_, _*_, _/_, _%_}
 use Prim.Native.String.{String}
 use Prim.Native.String.{[] as empty, _∷_ as _then_}
 use lib.Dec.{ltb}
-use lib.ListN.{take, drop}
+use Rattle.model.specs.Answers.{answerAt}
 use Rattle.book.specs.Fields.{byteAt, wordAt}
 
 -- the bytes of letters, digits, spaces and newlines
@@ -49,10 +49,6 @@ answerHead i a =
 -- "Each line: answer number, .., the C domains"
 unfoldable pub answerLine : ℕ → ℕ → List ℕ → List ℕ
 answerLine C i a = answerHead i a ++ domainFields a C ++ newline
-
--- "answer i is written into bytes 72 × i to 72 × i + 71" of the answer space
-abbrev pub answerAt : List ℕ → ℕ → List ℕ
-answerAt space i = take 72 (drop (72 * i) space)
 
 -- the lines of the first k answers
 unfoldable pub answerLines : ℕ → List ℕ → ℕ → List ℕ

@@ -1,4 +1,4 @@
--- Demands 2 and 3, proved. Assumes nothing.
+-- The claims of specs/Demands.antt, proved. Assumes nothing.
 use mathlib.Core.Path.{_≡_, refl, sym, ap, ap₂, _∙_, subst}
 use mathlib.Core.Bool.{Bool, true, false, not, _&&_, _||_, false≢true, true≢false}
 use mathlib.Core.Logic.{_⊎_, inl, inr, _↔_}

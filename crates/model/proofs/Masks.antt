@@ -12,7 +12,7 @@ use lib.Pow.{pow-mono}
 use borrow.Author.Tests.{eq-eqb, eqb-false, eqb-true, le-ltb, lt-ltb, ne-eqb}
 use Rattle.model.specs.Masks.{Cleared, bit, maskOf, size}
 use Rattle.model.specs.Tests.{oneIf}
-use Rattle.model.proofs.Tests.{below, either, none-count, one-count, two-count}
+use Rattle.model.proofs.Tests.{below, either, none-count, one-count, positive, two-count}
 
 pub bit-zero : (m : ℕ) → bit 0 m ≡ eqb (m % 2) 1
 unfolding bit
@@ -255,7 +255,3 @@ size-many x p h = go (cleared 32 x p h) (lowest-lt 32 x p h) (either (eqb (bitAn
         let s = some-bit 32 y (lt-of-le-of-lt (and-le-l x (x - 1)) h) (positive y (eqb-false y 0 e)) in
         let ne : s .0 ≡ trailingZeros 32 x → ⊥ = λ q. true≢false (sym (s .2) ∙ ap (λ (v : ℕ). bit v (bitAnd x (x - 1))) q ∙ f .gone) in
         lt-ltb 1 (size x) (two-count 32 (λ v. bit v x) (s .0) (trailingZeros 32 x) (s .1) l (sym (f .rest (s .0) ne) ∙ s .2) (f .here) ne) ∙ sym (ap not e)
-      where
-        positive : (k : ℕ) → (k ≡ 0 → ⊥) → 0 < k
-        positive zero g = absurd (g refl)
-        positive (suc k) g = omega arith

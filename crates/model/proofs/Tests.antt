@@ -342,6 +342,10 @@ tab-same n f g h =
     (λ i l. let k : i < n = omega (arith, length-tab n f) in getD-tab 0 n f i k ∙ h i k ∙ sym (getD-tab 0 n g i k))
 
 -- ---- order
+pub positive : (x : ℕ) → (x ≡ 0 → ⊥) → 0 < x
+positive zero f = absurd (f refl)
+positive (suc x) f = omega arith
+
 -- a number is below another, or not
 pub below : (a b : ℕ) → (a < b) ⊎ (b ≤ a)
 below a b = go (either (ltb a b))

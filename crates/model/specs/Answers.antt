@@ -4,7 +4,7 @@ use mathlib.Core.Option.{Option, none, some}
 use mathlib.Core.List.{List, [], _∷_, _++_, map}
 use Prim.Native.Nat.{ℕ, zero, suc, _+_, _*_, _/_, _%_, _^_}
 use lib.Dec.{eqb, ltb, leb}
-use lib.ListN.{length, getD}
+use lib.ListN.{length, getD, take, drop}
 use Rattle.model.specs.Tests.{allBelow, oneIf, count, tab}
 use Rattle.model.specs.Masks.{size}
 use Rattle.model.specs.Stores.{allFilled}
@@ -120,3 +120,7 @@ domainBytes D (suc n) = domainBytes D n ++ wordBytes (getD D n 0)
 unfoldable pub answerBytes : Answer → List ℕ
 answerBytes a =
     a .refused ∷ a .status ∷ a .depth ∷ a .outcome ∷ a .done ∷ 0 ∷ 0 ∷ 0 ∷ domainBytes (a .shown) 16
+
+-- "answer i is written into bytes 72 × i to 72 × i + 71": answer i of an answer space
+abbrev pub answerAt : List ℕ → ℕ → List ℕ
+answerAt space i = take 72 (drop (72 * i) space)

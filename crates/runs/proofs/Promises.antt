@@ -3,6 +3,7 @@
 use mathlib.Core.Path.{_∙_, _≡_, ap, refl, subst, sym}
 use mathlib.Core.Bool.{Bool, false, true}
 use mathlib.Core.Logic.{_↔_, _⊎_, inl, inr}
+use mathlib.Core.Option.{none, some}
 use mathlib.Core.List.{List, []}
 use Prim.Native.Nat.{_*_, _+_, _-_, _/_, _<_, _^_, _≤_, suc, zero, ℕ}
 use native.Mathlib.Numerals.{add-one}
@@ -11,16 +12,19 @@ use lib.Dec.{eqb, leb, ltb}
 use lib.ListN.{drop, getD, length}
 use lib.Seq.{getD-append-add, getD-drop, getD-take}
 use borrow.Author.Tests.{eqb-false, eqb-true, le-leb, le-ltb, leb-false, leb-true, lt-leb, lt-ltb, ltb-false, ne-eqb}
-use Rattle.model.specs.Answers.{Answer, acceptedCount, acceptedFrom, answer, answerBytes, answers, opening, showing}
+use Rattle.model.specs.Answers.{Answer, acceptedCount, acceptedFrom, answer, answerBytes, answers, doneOf, opening, showing, statusOf}
 use Rattle.model.specs.Books.{Book, Fails, Stays, WellFormed, columnCount}
 use Rattle.model.specs.Demands.{ShowsFinish, ShowsState}
 use Rattle.model.specs.Masks.{bit}
-use Rattle.model.specs.Orders.{Entry, allowed, byte, depth, isAccepted, kind, push, refusal, trail, trailFrom}
+use Rattle.model.specs.Orders.{Entry, allowed, byte, depth, domains, isAccepted, kind, push, refusal, trail, trailFrom}
+use Rattle.model.specs.Solutions.{firstSolution}
 use Rattle.model.specs.Stores.{has}
 use Rattle.model.specs.Tests.{count, oneIf, sum, tab}
-use Rattle.model.proofs.Demands.{answer-tells, bytes-1, bytes-2, bytes-3, claim1, claim2}
+use Rattle.model.proofs.Choices.{opt}
+use Rattle.model.proofs.Demands.{answer-tells, bytes-1, bytes-2, bytes-3, bytes-4, claim1, claim2}
 use Rattle.model.proofs.Refusals.{push-finish, push-refused}
 use Rattle.model.proofs.Search.{getD-map}
+use Rattle.model.proofs.Solutions.{found-iff, none-iff}
 use Rattle.model.proofs.Tests.{below, either, getD-tab, getD-tab-out, length-tab, or-false-l, sum-last, sum-same}
 use Rattle.model.proofs.Trails.{accepted-snoc, domains-store, trail-snoc}
 use Rattle.book.specs.Decoding.{bookOf}
@@ -31,7 +35,7 @@ use Rattle.engine.proofs.Lists.{orders-more, tab-last}
 use Rattle.runs.specs.Promises.{AcceptedRun, AcceptedRuns, AnyRun, AnyRuns, IsFinish, byteOf, domainOf, standing}
 use Rattle.runs.specs.Results.{RightInput, runRefusal, runResult, runSpace, spaceNeeded, wrongList}
 use Rattle.runs.specs.Spaces.{allBytes, written}
-use Rattle.runs.proofs.Reading.{answer-depth, domain-back, shown-small}
+use Rattle.runs.proofs.Reading.{answer-depth, domain-back, map-out, shown-small}
 use Rattle.runs.proofs.Runs.{accepted-few, answers-at, length-answers}
 use Rattle.runs.proofs.Spaces.{answer-part, length-all, length-written}
 
@@ -234,6 +238,11 @@ module _ (b o space : List ℕ) where
         let d = domain-back S i c a l (small c) bytes in
         (λ y. s .stays c v .0 (sym (ap (bit v) d) ∙ y), λ y. ap (bit v) d ∙ s .stays c v .1 y)
 
+    -- order i + 1 is no accepted finish
+    no-finish : (i : ℕ) → i < n → (IsFinish o S (i + 1) → ⊥) → kind (orderAt o i) ≡ 4 → refusal bk (standing b o i) (orderAt o i) ≡ 0 → ⊥
+    no-finish i l f k z =
+        let q : i + 1 - 1 ≡ i = omega arith in f (record { ordered = omega arith; of-kind = rw q k; accepted = refusals i l ∙ z })
+
     stays : (i : ℕ) → i ≤ n → (IsFinish o S i → ⊥) → (c v : ℕ) → c < 16 → (bit v (domainOf S i c) ≡ true) ↔ Stays bk (allowed bk (standing b o i)) c v
     unfolding showing
     stays =
@@ -243,21 +252,33 @@ module _ (b o space : List ℕ) where
         rw (stands-more i)
         (shows-stays (i + 1) (answer bk (standing b o i) (orderAt o i)) (push bk (standing b o i) (orderAt o i)) (ordered i l)
         (shown-small bk (standing b o i) (orderAt o i))
-        (claim2 bk formed .1 .ordered (standing b o i) (orderAt o i)
-        (λ k z. let q : i + 1 - 1 ≡ i = omega arith in f (record { ordered = omega arith; of-kind = rw q k; accepted = refusals i l ∙ z })))))
+        (claim2 bk formed .1 .ordered (standing b o i) (orderAt o i) (no-finish i l f))))
+
+    -- ---- the bytes before them
+    tells : (i : ℕ) → i ≤ n → (byteOf S i 1 ≡ statusOf bk (domains bk (standing b o i))) × (byteOf S i 4 ≡ doneOf bk (domains bk (standing b o i)))
+    unfolding showing
+    tells =
+        each (λ i. (byteOf S i 1 ≡ statusOf bk (domains bk (standing b o i))) × (byteOf S i 4 ≡ doneOf bk (domains bk (standing b o i))))
+        (rw no-orders (opened 1 (omega arith) ∙ bytes-1 (opening bk), opened 4 (omega arith) ∙ bytes-4 (opening bk)))
+        (λ i l.
+        let a = answer bk (standing b o i) (orderAt o i) in
+        let q = answer-tells bk (standing b o i) (orderAt o i) in
+        rw (stands-more i) (ordered i l 1 (omega arith) ∙ bytes-1 a ∙ q .status, ordered i l 4 (omega arith) ∙ bytes-4 a ∙ q .done))
 
     failed : (i : ℕ) → i ≤ n → (byteOf S i 1 ≡ 0) ↔ Fails bk (allowed bk (standing b o i))
-    failed =
-        each (λ i. (byteOf S i 1 ≡ 0) ↔ Fails bk (allowed bk (standing b o i)))
-        (rw no-orders (from 0 (opened 1 (omega arith) ∙ bytes-1 (opening bk)) (claim2 bk formed .1 .opened .failed)))
-        (λ i l.
-        rw (stands-more i)
-        (from (i + 1)
-        (ordered i l 1 (omega arith) ∙ bytes-1 (answer bk (standing b o i) (orderAt o i)) ∙ answer-tells bk (standing b o i) (orderAt o i) .status)
-        (claim2 bk formed .0 (push bk (standing b o i) (orderAt o i)) .failed)))
-      where
-        from : (i : ℕ) {s : ℕ} {X : Type 0} → byteOf S i 1 ≡ s → (s ≡ 0) ↔ X → (byteOf S i 1 ≡ 0) ↔ X
-        from i q w = (λ y. w .0 (sym q ∙ y), λ x. q ∙ w .1 x)
+    failed i l =
+        let q = tells i l .0 in
+        let w = claim2 bk formed .0 (standing b o i) .failed in
+        (λ y. w .0 (sym q ∙ y), λ x. q ∙ w .1 x)
+
+    outcome : (i : ℕ) → i ≤ n → (IsFinish o S i → ⊥) → byteOf S i 3 ≡ 0
+    outcome =
+        each (λ i. (IsFinish o S i → ⊥) → byteOf S i 3 ≡ 0)
+        (λ f. opened 3 (omega arith) ∙ bytes-3 (opening bk) ∙ claim2 bk formed .1 .opened .outcome)
+        (λ i l f.
+        ordered i l 3 (omega arith)
+        ∙ bytes-3 (answer bk (standing b o i) (orderAt o i))
+        ∙ claim2 bk formed .1 .ordered (standing b o i) (orderAt o i) (no-finish i l f) .outcome)
 
     deep : (i : ℕ) → i ≤ n → byteOf S i 2 ≡ depth (standing b o i)
     unfolding showing
@@ -302,7 +323,10 @@ module _ (b o space : List ℕ) where
       counted = counted;
       refusals = refusals;
       refused-order = λ i l z. stands-more i ∙ push-refused bk (standing b o i) (orderAt o i) (λ y. z (refusals i l ∙ y));
+      status = λ i l. tells i l .0;
       deep = deep;
+      done = λ i l. tells i l .1;
+      outcome = outcome;
       stays = stays;
       failed = failed;
       found = λ i l f. let g = finish i l f in third i 1 g (g .shows .found);
@@ -312,11 +336,25 @@ module _ (b o space : List ℕ) where
           domain-back S i c (g .shown) (omega (arith, formed .few-columns)) (g .small c) (g .bytes)
           ∙ ap (λ (D : List ℕ). getD D c 0) (g .shows .first x q)
           ∙ getD-map (λ v. 2 ^ v) x c (rw (q .solution .size) m);
+      past = λ i l f c k m.
+          let g = finish i l f in
+          domain-back S i c (g .shown) m (g .small c) (g .bytes)
+          ∙ past-masks i g c k (opt (firstSolution bk (domains bk (standing b o i))));
       zeros = λ i l f q c m.
           let g = finish i l f in
           domain-back S i c (g .shown) m (g .small c) (g .bytes) ∙ ap (λ (D : List ℕ). getD D c 0) (g .shows .zeros q) ∙ no-masks c (below c (columnCount bk));
     }
       where
+        past-masks : (i : ℕ) (g : Finish i) (c : ℕ) → columnCount bk ≤ c
+            → (firstSolution bk (domains bk (standing b o i)) ≡ none) ⊎ ((x : List ℕ) × (firstSolution bk (domains bk (standing b o i)) ≡ some x))
+            → getD (g .shown .shown) c 0 ≡ 0
+        past-masks i g c k (inl e) =
+            ap (λ (D : List ℕ). getD D c 0) (g .shows .zeros (none-iff bk (domains bk (standing b o i)) (domains-store bk (standing b o i)) .0 e))
+            ∙ getD-tab-out (columnCount bk) (λ c. 0) c k
+        past-masks i g c k (inr q) =
+            let f = found-iff bk (domains bk (standing b o i)) (domains-store bk (standing b o i)) (q .0) .0 (q .1) in
+            ap (λ (D : List ℕ). getD D c 0) (g .shows .first (q .0) f) ∙ map-out (λ v. 2 ^ v) (q .0) c (rw (f .solution .size) k)
+
         no-masks : (c : ℕ) → (c < columnCount bk) ⊎ (columnCount bk ≤ c) → _≡_ {A = ℕ} (getD (tab (columnCount bk) (λ c. 0)) c 0) 0
         no-masks c (inl l) = getD-tab {A = ℕ} 0 (columnCount bk) (λ c. 0) c l
         no-masks c (inr l) = getD-tab-out (columnCount bk) (λ c. 0) c l

@@ -84,7 +84,7 @@ answer-depth b L o = go (either (eqb (kind o) 4 && isAccepted b L o))
     go (inr q) = ap (λ (a : Answer). a .depth) (answer-other b L o q)
 
 -- the masks of a solution, and of none, have 32 bits
-map-out : (f : ℕ → ℕ) (l : List ℕ) (i : ℕ) → length l ≤ i → getD (map f l) i 0 ≡ 0
+pub map-out : (f : ℕ → ℕ) (l : List ℕ) (i : ℕ) → length l ≤ i → getD (map f l) i 0 ≡ 0
 map-out f [] i h = refl
 map-out f (x ∷ xs) zero h = absurd (omega arith)
 map-out f (x ∷ xs) (suc i) h = map-out f xs i (le-of-suc-le-suc h)

@@ -7,6 +7,7 @@ use mathlib.Core.List.{List}
 use Prim.Native.Nat.{_*_, _+_, _-_, _/_, _<_, _^_, _≤_, ℕ}
 use lib.Dec.{eqb}
 use lib.ListN.{getD, length}
+use Rattle.model.specs.Answers.{doneOf, statusOf}
 use Rattle.model.specs.Books.{Fails, Stays, columnCount}
 use Rattle.model.specs.Masks.{bit}
 use Rattle.model.specs.Orders.{Entry, allowed, byte, depth, domains, kind, refusal, trail}
@@ -57,8 +58,12 @@ pub record AcceptedRun (b o S : List ℕ) (n accepted : ℕ) : Type 0 where
   pub refusals : (i : ℕ) → i < n → byteOf S (i + 1) 0 ≡ refusal (bookOf b) (standing b o i) (orderAt o i)
   -- "a refused order changes nothing": no domain and no mark, for the whole standing list stays
   pub refused-order : (i : ℕ) → i < n → (byteOf S (i + 1) 0 ≡ 0 → ⊥) → standing b o (i + 1) ≡ standing b o i
-  -- "byte 2 depth"
+  -- "byte 1 status", "byte 2 depth", "byte 4 done"
+  pub status : (i : ℕ) → i ≤ n → byteOf S i 1 ≡ statusOf (bookOf b) (domains (bookOf b) (standing b o i))
   pub deep : (i : ℕ) → i ≤ n → byteOf S i 2 ≡ depth (standing b o i)
+  pub done : (i : ℕ) → i ≤ n → byteOf S i 4 ≡ doneOf (bookOf b) (domains (bookOf b) (standing b o i))
+  -- "byte 3 zero, or for an accepted finish 1 found, 2 none"
+  pub outcome : (i : ℕ) → i ≤ n → (IsFinish o S i → ⊥) → byteOf S i 3 ≡ 0
   -- demand 2, at every answer: "a value stays exactly when some sound box within the standing narrowings holds it"
   pub stays : (i : ℕ) → i ≤ n → (IsFinish o S i → ⊥) → (c v : ℕ) → c < 16
       → (bit v (domainOf S i c) ≡ true) ↔ Stays (bookOf b) (allowed (bookOf b) (standing b o i)) c v
@@ -70,6 +75,8 @@ pub record AcceptedRun (b o S : List ℕ) (n accepted : ℕ) : Type 0 where
   pub not-found : (i : ℕ) → i ≤ n → IsFinish o S i → (byteOf S i 3 ≡ 2) ↔ NoSolution (bookOf b) (domains (bookOf b) (standing b o i))
   pub first : (i : ℕ) → i ≤ n → IsFinish o S i → (x : List ℕ) → FirstSolution (bookOf b) (domains (bookOf b) (standing b o i)) x
       → (c : ℕ) → c < columnCount (bookOf b) → domainOf S i c ≡ 2 ^ getD x c 0
+  -- "zero from C on"
+  pub past : (i : ℕ) → i ≤ n → IsFinish o S i → (c : ℕ) → columnCount (bookOf b) ≤ c → c < 16 → domainOf S i c ≡ 0
   -- "or zeros for none"
   pub zeros : (i : ℕ) → i ≤ n → IsFinish o S i → NoSolution (bookOf b) (domains (bookOf b) (standing b o i)) → (c : ℕ) → c < 16 → domainOf S i c ≡ 0
 

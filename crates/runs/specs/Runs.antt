@@ -3,17 +3,16 @@ use mathlib.Core.Path.{_≡_}
 use mathlib.Core.List.{List}
 use Prim.Native.Nat.{_/_, ℕ}
 use lib.ListN.{length}
-use Rattle.model.specs.Answers.{acceptedCount, answers, finishing, showing}
+use Rattle.model.specs.Answers.{acceptedCount, answerAt, answers, finishing, showing}
 use Rattle.model.specs.Demands.{Demand3, Opened, Run, Stepped}
 use Rattle.model.specs.Orders.{Entry, depth, trail}
 use Rattle.book.specs.Decoding.{bookOf}
-use Rattle.book.specs.Verdicts.{accepted}
 use Rattle.engine.specs.Holds.{Holds}
 use Rattle.engine.specs.Lists.{ordersOf, ordersTo}
 use Rattle.engine.specs.Sessions.{StateIs}
 use Rattle.engine.specs.declared.session.Session.{Session}
 use Rattle.engine.specs.declared.state.State.{State}
-use Rattle.runs.specs.Spaces.{Adds, answerAt, written}
+use Rattle.runs.specs.Spaces.{Adds, written}
 
 -- ---- one answer
 -- answer i shows the state st at depth d, with the refusal r

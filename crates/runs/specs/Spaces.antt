@@ -5,7 +5,7 @@
 use mathlib.Core.Path.{_≡_}
 use mathlib.Core.List.{List, [], _++_, _∷_}
 use Prim.Native.Nat.{_*_, _+_, _≤_, ℕ}
-use lib.ListN.{drop, length, take}
+use lib.ListN.{drop, length}
 use Rattle.model.specs.Answers.{Answer, answerBytes}
 
 -- "answer i is written into bytes 72 × i to 72 × i + 71": answers as bytes, one after the other
@@ -16,10 +16,6 @@ allBytes (a ∷ xs) = answerBytes a ++ allBytes xs
 -- the space with these answers in front: "Later bytes of the space are untouched"
 abbrev pub written : List Answer → List ℕ → List ℕ
 written xs space = allBytes xs ++ drop (72 * length xs) space
-
--- answer i of a space
-abbrev pub answerAt : List ℕ → ℕ → List ℕ
-answerAt space i = take 72 (drop (72 * i) space)
 
 -- one answer more: whatever i answers stand in front, a stands after them
 abbrev pub Adds : ℕ → Answer → List ℕ → List ℕ → Type 0

@@ -2,8 +2,6 @@
 use crate::run::*;
 use engine::layout::*;
 use engine::session::*;
-ghost use mathlib.Core.Path.{_≡_};
-ghost use Prim.Native.Nat.{_+_, _*_, _/_, _≤_};
 ghost use lib.ListN.{length};
 ghost use Rattle.runs.specs.Results.{RightInput};
 ghost use Rattle.runs.specs.Runs.{Compares};

@@ -2,7 +2,6 @@
 use answers::write::*;
 use engine::session::*;
 use engine::state::*;
-ghost use mathlib.Core.Path.{_≡_};
 ghost use mathlib.Core.List.{[]};
 ghost use Prim.Native.Nat.{_+_, _*_, _<_, _≤_};
 ghost use lib.ListN.{length};

@@ -3,7 +3,6 @@ use crate::shown::*;
 use engine::orders::*;
 use engine::session::*;
 ghost use mathlib.Core.Path.{_≡_};
-ghost use Prim.Native.Nat.{_+_, _*_, _<_, _≤_};
 ghost use lib.ListN.{length};
 ghost use Rattle.book.specs.Verdicts.{Accepted};
 ghost use Rattle.engine.specs.Layouts.{LayoutOf};

@@ -9,9 +9,8 @@ use native.Mathlib.Nat.{lt-of-le-of-lt}
 use native.Mathlib.Omega.{arith}
 use lib.Bits.{and-le-l, bitAnd}
 use lib.Dec.{eqb, ltb}
-use lib.ListN.{List·getD-eq-default, getD, length, set}
+use lib.ListN.{List·getD-eq-default, getD, set}
 use lib.Pow.{pow-lt, pow-pos}
-use lib.Seq.{ext-getD}
 use Rattle.model.specs.Books.{ConsistentStore, WellFormed, closure, columnCount}
 use Rattle.model.specs.Masks.{bit, size}
 use Rattle.model.specs.Orders.{domains, narrowed}
@@ -23,7 +22,7 @@ use Rattle.model.proofs.Masks.{bit-and, bit-pow, bit-pow-only, mask-ext, size-z
 use Rattle.model.proofs.Search.{after-fewer, after-store, closed-consistent, many-column, single-column}
 use Rattle.model.proofs.Solutions.{none-iff}
 use Rattle.model.proofs.Stores.{empty-has, filled-i, in-store}
-use Rattle.model.proofs.Tests.{and-i, and-r, below, getD-tab, length-tab, same-test}
+use Rattle.model.proofs.Tests.{and-i, and-r, below, same-test}
 use Rattle.model.proofs.Trails.{domains-closed, domains-store}
 use Rattle.book.specs.Decoding.{bookOf}
 use Rattle.book.specs.Head.{columnsOf}
@@ -33,22 +32,13 @@ use Rattle.engine.specs.Layouts.{LayoutOf}
 use Rattle.engine.specs.Propagation.{Propagated, Ready, closureIn, isOpen, storeIn}
 use Rattle.engine.specs.Worklists.{WaitingFor}
 use Rattle.engine.proofs.Narrowings.{met-closure, met-store, narrow-ready}
-use Rattle.engine.proofs.Turns.{columns-count, store-in}
+use Rattle.engine.proofs.Turns.{columns-count, store-in, store-is}
 use Rattle.search.specs.Searches.{FilledState, FoundIs, OpenValue, solutionAfter, solutionIn}
 use Rattle.search.specs.declared.Found.{Found}
 
 -- how many values are left: what falls as the search goes deeper
 abbrev pub valuesLeft : List ℕ → List ℕ → ℕ
 valuesLeft b D = values (columnCount (bookOf b)) (storeIn b D)
-
--- the store in an array whose entries are those of the store E
-pub store-is : (b D E : List ℕ) → IsStore (columnCount (bookOf b)) E → ((c : ℕ) → getD D c 0 ≡ getD E c 0) → storeIn b D ≡ E
-store-is b D E e h =
-    ext-getD 0 (storeIn b D) E (long ∙ sym (columns-count b) ∙ sym (e .columns))
-    (λ c l. getD-tab 0 (columnsOf b) (λ c. getD D c 0) c (omega (arith, long)) ∙ h c)
-  where
-    long : length (storeIn b D) ≡ columnsOf b
-    long = length-tab (columnsOf b) (λ c. getD D c 0)
 
 -- a column set to one of its values is met with that value
 value-met : (D : List ℕ) (c v : ℕ) → getD D c 0 < 2 ^ 32 → v < 32 → has D c v ≡ true → bitAnd (getD D c 0) (2 ^ v) ≡ 2 ^ v

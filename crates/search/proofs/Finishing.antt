@@ -21,11 +21,11 @@ use Rattle.book.specs.Verdicts.{Accepted}
 use Rattle.engine.specs.Sessions.{SomeState}
 use Rattle.engine.specs.declared.state.State.{State}
 use Rattle.engine.proofs.Emptied.{no-value}
-use Rattle.engine.proofs.Turns.{columns-count}
+use Rattle.engine.proofs.Turns.{columns-count, store-is}
 use Rattle.search.specs.Searches.{FilledState, Finishes, FoundIs, solutionIn}
 use Rattle.search.specs.declared.Found.{Found}
 use Rattle.search.proofs.Branches.{found-none}
-use Rattle.search.proofs.Filled.{book-formed, store-is}
+use Rattle.search.proofs.Filled.{book-formed}
 
 module _ (b : List ℕ) (acc : Accepted b) (st : State) where
   -- column 0 is empty: there is no solution

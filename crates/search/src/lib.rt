@@ -13,7 +13,7 @@ ghost use Prim.Native.Nat.{_<_};
 ghost use lib.Count.{trailingZeros};
 ghost use lib.ListN.{replicate};
 ghost use Rattle.model.specs.Tests.{FirstIn};
-ghost use Rattle.model.specs.Masks.{bit, Cleared};
+ghost use Rattle.model.specs.Masks.{bit};
 ghost use Rattle.book.specs.Verdicts.{Accepted};
 ghost use Rattle.engine.specs.Layouts.{LayoutOf};
 ghost use Rattle.engine.specs.Propagation.{isOpen};
@@ -58,14 +58,6 @@ fn lowest_value(d: u32) -> u32
     u32::trailing_zeros(d)
 }
 
-// The other values.
-fn other_values(d: u32) -> u32
-    requires { ⌜ 0 < d ⌝ }
-    ensures { λ r. ⌜ Cleared d r (trailingZeros 32 d) × (r < d) ⌝ }
-{
-    d & (d - 1)
-}
-
 // The first solution in a state that is not failed.
 fn pick_column(
     book: &[u8],
@@ -100,7 +92,7 @@ fn pick_column(
         if f.ok {
             return f;
         }
-        rest = other_values(rest);
+        rest = words::bits::others(rest);
     }
     nothing()
 }

@@ -1,7 +1,7 @@
 // Masks as machine words: their lowest place, and a mask without it.
 ghost use mathlib.Core.Path.{_≡_};
 ghost use mathlib.Core.Bool.{true};
-ghost use Prim.Native.Nat.{_+_, _-_, _/_, _%_, _^_, _<_, _≤_};
+ghost use Prim.Native.Nat.{_-_, _/_, _%_, _^_, _<_};
 ghost use lib.Count.{trailingZeros};
 ghost use lib.Dec.{ltb};
 ghost use Rattle.model.specs.Masks.{bit, size, Cleared};
@@ -18,6 +18,14 @@ pub fn lowest(x: u64) -> u32
 pub fn without_lowest(x: u64) -> u64
     requires { ⌜ 0 < x ⌝ }
     ensures { λ r. ⌜ Cleared x r (trailingZeros 64 x) × (r < x) ⌝ }
+{
+    x & (x - 1)
+}
+
+// A mask of 32 places without its lowest.
+pub fn others(x: u32) -> u32
+    requires { ⌜ 0 < x ⌝ }
+    ensures { λ r. ⌜ Cleared x r (trailingZeros 32 x) × (r < x) ⌝ }
 {
     x & (x - 1)
 }

@@ -3,7 +3,7 @@ use crate::cells::*;
 use crate::index::*;
 ghost use mathlib.Core.Path.{_≡_};
 ghost use mathlib.Core.Bool.{false};
-ghost use Prim.Native.Nat.{_+_, _*_, _<_, _≤_};
+ghost use Prim.Native.Nat.{_+_, _*_, _<_};
 ghost use lib.ListN.{getD};
 ghost use Rattle.book.specs.Head.{widthOf};
 ghost use Rattle.words.specs.Sheets.{AtSheet, Inside, IndexOf, Sized, WordCut, CutBy, valueIn, passesAt, passesBelow};

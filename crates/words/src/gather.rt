@@ -3,8 +3,8 @@ use crate::cells::*;
 use crate::index::*;
 ghost use mathlib.Core.Path.{_≡_};
 ghost use mathlib.Core.Bool.{true};
-ghost use Prim.Native.Nat.{_+_, _*_, _<_, _≤_, _^_};
-ghost use lib.ListN.{length, replicate};
+ghost use Prim.Native.Nat.{_+_, _*_, _<_};
+ghost use lib.ListN.{replicate};
 ghost use Rattle.words.specs.Cells.{Covered, SmallSets};
 ghost use Rattle.words.specs.Sheets.{AtSheet, Inside, IndexOf, Sized, Supported};
 

@@ -2,13 +2,11 @@
 use crate::cut::*;
 use crate::gather::*;
 ghost use mathlib.Core.Path.{_≡_};
-ghost use mathlib.Core.Bool.{false};
-ghost use Prim.Native.Nat.{_+_, _*_, _<_, _≤_};
-ghost use lib.ListN.{getD, replicate};
+ghost use Prim.Native.Nat.{_<_};
+ghost use lib.ListN.{replicate};
 ghost use Rattle.model.specs.Stores.{IsStore};
-ghost use Rattle.book.specs.Head.{widthOf, columnOf};
-ghost use Rattle.words.specs.Sheets.{AtSheet, Inside, IndexOf, Sized, Wanted, StruckPlace, StruckTo, Struck, Carried, SheetKnown, AllCarried, Revised};
-
+ghost use Rattle.book.specs.Head.{widthOf};
+ghost use Rattle.words.specs.Sheets.{AtSheet, Inside, IndexOf, Sized, Wanted, StruckPlace, StruckTo, Struck, Carried, SheetKnown, Revised};
 // The domain of each place of sheet s; of a place that is not used, 0 alone, which is what every row has there.
 fn wanted(book: &[u8], first: usize, s: usize, dom: &[u32; 16], x: &mut [u32; 4])
     requires { ⌜ AtSheet (now book) first s × IsStore 16 (now dom) × (now x ≡ replicate 4 1) ⌝ }

@@ -22,7 +22,7 @@ pub use books::{any_book, harbour, plant, regular, tiny, BLOCK_EDGES};
 pub use case::{Case, Hit, Mend, Story};
 pub use compare::agreed_run;
 pub use damage::Damage;
-pub use orders::{all_values, any_list, back, narrow, FINISH, MARK};
+pub use orders::{all_values, any_list, back, example_orders, narrow, FINISH, MARK};
 pub use random::Random;
 pub use reference::{Book, Order, Sheet};
 pub use region::Region;

@@ -18,6 +18,11 @@ pub fn back(m: u8) -> Order {
     [3, m, 0, 0, 0, 0, 0, 0]
 }
 
+/// Document 01's example on H: mark, narrow board 1, finish, back 1, back 1, narrow width 4.
+pub fn example_orders() -> [Order; 6] {
+    [MARK, narrow(2, 1), FINISH, back(1), back(1), narrow(0, 4)]
+}
+
 /// All values of a column that has so many.
 pub fn all_values(count: u8) -> u32 {
     u32::MAX >> (32 - count)

@@ -1,7 +1,8 @@
 //! The papers' own examples as whole runs: K1 to K10, the printed run, and document 002's table.
 
 use conformance::{
-    agreed_run, back, harbour, narrow, space_for, write, Book, Order, Seen, Sheet, FINISH, MARK,
+    agreed_run, back, example_orders, harbour, narrow, space_for, write, Book, Order, Seen, Sheet,
+    FINISH, MARK,
 };
 
 const WIDTH: u8 = 0;
@@ -130,17 +131,8 @@ fn k10_narrow_width_8() {
     assert_eq!((number, answers), (0, vec![opening, refused]));
 }
 
-/// "On H with mark, narrow board 1, finish, back 1, back 1, narrow width 4"
 #[test]
 fn the_printed_run() {
-    let orders = [
-        MARK,
-        narrow(BOARD, 1),
-        FINISH,
-        back(1),
-        back(1),
-        narrow(WIDTH, 4),
-    ];
     let opening = shows(1, 0, &[7, 3, 3]);
     let marked = |seen| Seen { depth: 1, ..seen };
     let found = Seen {
@@ -160,7 +152,7 @@ fn the_printed_run() {
         refused,
         shows(2, 3, &[4, 2, 2]),
     ];
-    let (number, answers) = run(&harbour(), &orders);
+    let (number, answers) = run(&harbour(), &example_orders());
     assert_eq!(number, 5);
     assert_eq!(answers, expected);
 }
@@ -189,21 +181,26 @@ fn mask(values: &[u32]) -> u32 {
     values.iter().map(|value| 1 << value).sum()
 }
 
-/// Every domain becomes {1, 2, 3, 4}: 8 tuples are left, and none has 3 for x0. Then x1 loses 1 and 2:
-/// 4 tuples are left, and x2 loses 3 and 4.
-#[test]
-fn the_walk_through_of_document_002() {
+/// The table of document 002's walk-through, and its four narrows.
+fn walk_through() -> (Book, [Order; 4]) {
     let rows: Vec<&[u8]> = TUPLES.iter().map(|tuple| &tuple[..]).collect();
     let table = book(&[10; 3], &[(&[0, 1, 2], &rows)]);
     let domain = mask(&[1, 2, 3, 4]);
-    let orders = [
+    let narrows = [
         narrow(0, domain),
         narrow(1, domain),
         narrow(2, domain),
         narrow(1, mask(&[3, 4])),
-        FINISH,
     ];
-    let answers = answers(&table, &orders);
+    (table, narrows)
+}
+
+/// Every domain becomes {1, 2, 3, 4}: 8 tuples are left, and none has 3 for x0. Then x1 loses 1 and 2:
+/// 4 tuples are left, and x2 loses 3 and 4.
+#[test]
+fn the_walk_through_of_document_002() {
+    let (table, narrows) = walk_through();
+    let answers = answers(&table, &[&narrows[..], &[FINISH]].concat());
     let all = |x0: &[u32], x1: &[u32], x2: &[u32]| shows(1, 0, &[mask(x0), mask(x1), mask(x2)]);
     let opening = all(
         &[0, 1, 2, 4, 5, 6, 7, 8],
@@ -228,15 +225,7 @@ fn the_walk_through_of_document_002() {
 /// The same, every step undone and done again.
 #[test]
 fn the_walk_through_to_and_fro() {
-    let rows: Vec<&[u8]> = TUPLES.iter().map(|tuple| &tuple[..]).collect();
-    let table = book(&[10; 3], &[(&[0, 1, 2], &rows)]);
-    let domain = mask(&[1, 2, 3, 4]);
-    let narrows = [
-        narrow(0, domain),
-        narrow(1, domain),
-        narrow(2, domain),
-        narrow(1, mask(&[3, 4])),
-    ];
+    let (table, narrows) = walk_through();
     let once = answers(&table, &narrows);
     let mut orders = Vec::new();
     for (step, &order) in narrows.iter().enumerate() {

@@ -4,7 +4,8 @@
 //! repository. A relative folder counts from this crate's own.
 
 use conformance::{
-    back, harbour, narrow, regular, tiny, write, Case, Random, Run, FINISH, LONGEST, MARK,
+    back, example_orders, harbour, narrow, regular, tiny, write, Case, Random, Run, FINISH,
+    LONGEST, MARK,
 };
 use std::env;
 use std::fs;
@@ -86,12 +87,7 @@ impl Drop for Folder {
     }
 }
 
-/// The example of document 01.
-fn example() -> Vec<u8> {
-    let orders = [MARK, narrow(2, 1), FINISH, back(1), back(1), narrow(0, 4)];
-    orders.concat()
-}
-
+/// What it prints for the example of document 01.
 const EXAMPLE_LINES: &str = "0 0 1 0 0 0 7 3 3\n\
                              1 0 1 1 0 0 7 3 3\n\
                              2 0 1 1 3 0 3 1 1\n\
@@ -104,7 +100,7 @@ const EXAMPLE_LINES: &str = "0 0 1 0 0 0 7 3 3\n\
 #[test]
 fn the_example_prints_its_lines() {
     let folder = Folder::new("example");
-    let printed = folder.agrees(&write(&harbour()), &example());
+    let printed = folder.agrees(&write(&harbour()), &example_orders().concat());
     assert_eq!(printed, EXAMPLE_LINES);
 }
 
@@ -113,7 +109,7 @@ fn the_example_prints_its_lines() {
 fn orders_in_pieces() {
     let folder = Folder::new("pieces");
     let book = write(&harbour());
-    let example = example();
+    let example = example_orders().concat();
     for size in [1, 3, 8, 47] {
         let pieces: Vec<&[u8]> = example.chunks(size).collect();
         assert_eq!(folder.prints(Some(&book), &pieces), EXAMPLE_LINES);

@@ -5,7 +5,8 @@ mod finish;
 mod orders;
 mod run;
 
-use crate::{check, decode, head, Book, Sheet};
+use crate::{check, decode, head, Book, Order, Sheet};
+use orders::{back, narrow, BOARD, FINISH, MARK, WIDTH};
 
 /// "H has three columns: 0 width with V 3, 1 motor with V 2, 2 board with V 2." "Sheet 0 (width,
 /// motor): 00 10 11 21. Sheet 1 (motor, board): 00 01 11." The checks are added up on paper.
@@ -25,6 +26,18 @@ fn harbour() -> Vec<u8> {
     // 0 + 256 + 257, plus 3
     put(&mut book, 1532, &516_u32.to_le_bytes());
     book
+}
+
+/// "On H with mark, narrow board 1, finish, back 1, back 1, narrow width 4"
+fn example() -> [Order; 6] {
+    [
+        MARK,
+        narrow(BOARD, 1),
+        FINISH,
+        back(1),
+        back(1),
+        narrow(WIDTH, 4),
+    ]
 }
 
 fn put(book: &mut [u8], offset: usize, bytes: &[u8]) {

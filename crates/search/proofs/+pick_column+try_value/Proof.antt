@@ -18,8 +18,8 @@ use Rattle.engine.proofs.worklist.waiting_for.Reads as waiting-for-reads
 use Rattle.search.proofs.lowest_value.Reads as lowest-value-reads
 use Rattle.search.proofs.nothing.Reads as nothing-reads
 use Rattle.search.proofs.open_column.Reads as open-column-reads
-use Rattle.search.proofs.other_values.Reads as other-values-reads
 use Rattle.words.proofs.bits.only.Reads as only-reads
+use Rattle.words.proofs.bits.others.Reads as others-reads
 use Rattle.search.proofs.+pick_column+try_value.{statement}
 use Rattle.search.proofs.+pick_column+try_value.Tie.{close}
 
@@ -53,8 +53,8 @@ picks t = (
   lowest-value-reads.Learnt,
   try-value-below t,
   try-value.Post,
-  other-values-reads.Asked,
-  other-values-reads.Learnt,
+  others-reads.Asked,
+  others-reads.Learnt,
   nothing-reads.Asked,
   nothing-reads.Learnt,
 )
@@ -118,15 +118,15 @@ pick-column-returns-2 t c =
     let v = c .before .before .lowest-value .ensures in
     picked-found _ (p .1 .0) (p .1 .2) o l u (v .0) (v .1) (c .before .try-value .ensures) (c .if2 .taken)
 
-pick-column-other-values-requires : (t : ℕ) → pick-column-lts.Need-other-values-requires (picks t) (pick-column-at t) pick-column.Post pick-column-Inv-loop pick-column-μ-loop
-pick-column-other-values-requires t c κs = search needs
+pick-column-others-requires : (t : ℕ) → pick-column-lts.Need-others-requires (picks t) (pick-column-at t) pick-column.Post pick-column-Inv-loop pick-column-μ-loop
+pick-column-others-requires t c κs = search needs
 
 pick-column-loop-less : (t : ℕ) → pick-column-lts.Need-loop-less (picks t) (pick-column-at t) pick-column.Post pick-column-Inv-loop pick-column-μ-loop
 pick-column-loop-less t c = search needs
 
 pick-column-loop-again : (t : ℕ) → pick-column-lts.Need-loop-again (picks t) (pick-column-at t) pick-column.Post pick-column-Inv-loop pick-column-μ-loop
 pick-column-loop-again t c =
-    untried-less (c .before .before .before .before .before .loop .inv) (c .before .before .before .lowest-value .ensures .0) (c .other-values .ensures .0) (c .before .before .try-value .ensures) (c .before .if2 .left)
+    untried-less (c .before .before .before .before .before .loop .inv) (c .before .before .before .lowest-value .ensures .0) (c .others .ensures .0) (c .before .before .try-value .ensures) (c .before .if2 .left)
 
 pick-column-nothing-requires : (t : ℕ) → pick-column-lts.Need-nothing-requires (picks t) (pick-column-at t) pick-column.Post pick-column-Inv-loop pick-column-μ-loop
 pick-column-nothing-requires t c κs = search needs
@@ -212,7 +212,7 @@ pub +pick-column+try-value-spec : {M : Type 1} → statement M
     (pick-column-lowest-value-requires t)
     (pick-column-try-value-requires t)
     (pick-column-returns-2 t)
-    (pick-column-other-values-requires t)
+    (pick-column-others-requires t)
     (pick-column-loop-less t)
     (pick-column-loop-again t)
     (pick-column-nothing-requires t)

@@ -1,6 +1,6 @@
 //! Orders on document 01's books, worked by hand.
 
-use super::harbour;
+use super::{example, harbour};
 use crate::{closure, decode, session, Book, Order, Outcome, Sheet, Shown};
 
 pub(super) const MARK: Order = [2, 0, 0, 0, 0, 0, 0, 0];
@@ -120,18 +120,9 @@ fn k10_narrow_width_8() {
     assert_eq!(last(&[narrow(WIDTH, 8)]), shown(22, 0, &[7, 3, 3]));
 }
 
-/// "On H with mark, narrow board 1, finish, back 1, back 1, narrow width 4"
 #[test]
 fn the_example_run() {
     let book = decode(&harbour()).unwrap();
-    let orders = [
-        MARK,
-        narrow(BOARD, 1),
-        FINISH,
-        back(1),
-        back(1),
-        narrow(WIDTH, 4),
-    ];
     let expected = [
         shown(0, 0, &[7, 3, 3]),
         shown(0, 1, &[7, 3, 3]),
@@ -141,7 +132,7 @@ fn the_example_run() {
         shown(24, 0, &[7, 3, 3]),
         shown(0, 0, &[4, 2, 2]),
     ];
-    assert_eq!(session(&book, &orders), expected);
+    assert_eq!(session(&book, &example()), expected);
 }
 
 /// "Settling each sheet once: striking in sheet 1 may kill rows of sheet 0."

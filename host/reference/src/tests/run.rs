@@ -1,7 +1,7 @@
 //! Whole runs of document 01's books: the number, the 72 bytes of each answer, and the lines.
 
-use super::orders::{back, narrow, BOARD, FINISH, MARK, MOTOR, WIDTH};
-use super::{changed, harbour, mend, put, refused};
+use super::orders::{narrow, BOARD, FINISH, MARK, MOTOR};
+use super::{changed, example, harbour, mend, put, refused};
 use crate::{done, printed, run, status, Order};
 
 /// What stands in the space before a call.
@@ -24,16 +24,11 @@ fn answer(first: [u8; 5], domains: &[u32]) -> Vec<u8> {
     bytes
 }
 
-/// The example run of document 01.
-fn example() -> Vec<Order> {
-    vec![
-        MARK,
-        narrow(BOARD, 1),
-        FINISH,
-        back(1),
-        back(1),
-        narrow(WIDTH, 4),
-    ]
+/// Over H, these orders give this number and these answers.
+fn gives(orders: &[Order], number: u64, answers: &[Vec<u8>]) {
+    let space = 72 * (orders.len() + 1);
+    let expected = (number, answers.concat());
+    assert_eq!(ran(&harbour(), &orders.concat(), space), expected);
 }
 
 /// The lines of the example: "answer number, refusal, status, depth, done, byte 3, the C domains".
@@ -52,8 +47,6 @@ fn the_example_prints_its_lines() {
 
 #[test]
 fn the_example_in_bytes() {
-    let (number, space) = ran(&harbour(), &example().concat(), 72 * 7);
-    assert_eq!(number, 5);
     let expected = [
         answer([0, 1, 0, 0, 0], &[7, 3, 3]),
         answer([0, 1, 1, 0, 0], &[7, 3, 3]),
@@ -63,7 +56,7 @@ fn the_example_in_bytes() {
         answer([24, 1, 0, 0, 0], &[7, 3, 3]),
         answer([0, 2, 0, 0, 3], &[4, 2, 2]),
     ];
-    assert_eq!(space, expected.concat());
+    gives(&example(), 5, &expected);
 }
 
 #[test]
@@ -80,27 +73,21 @@ fn refused_runs_print_one_line() {
 fn finishes_of_the_dead_and_refused_ones() {
     let mut wrong = FINISH;
     wrong[7] = 1;
-    let orders = [narrow(MOTOR, 0), FINISH, wrong].concat();
-    let (number, space) = ran(&harbour(), &orders, 72 * 4);
-    assert_eq!(number, 2);
-    let expected = [
-        answer([0, 1, 0, 0, 0], &[7, 3, 3]),
+    let opening = answer([0, 1, 0, 0, 0], &[7, 3, 3]);
+    let dead = [
+        opening.clone(),
         answer([0, 0, 0, 0, 0], &[]),
         answer([0, 0, 0, 2, 0], &[]),
         answer([25, 0, 0, 0, 0], &[]),
     ];
-    assert_eq!(space, expected.concat());
-    let (number, space) = ran(&harbour(), &wrong, 72 * 2);
-    assert_eq!(number, 0);
-    assert_eq!(space[72..], answer([25, 1, 0, 0, 0], &[7, 3, 3]));
+    gives(&[narrow(MOTOR, 0), FINISH, wrong], 2, &dead);
+    let refused = answer([25, 1, 0, 0, 0], &[7, 3, 3]);
+    gives(&[wrong], 0, &[opening, refused]);
 }
 
 /// "The state stays": after a finish the domains are there again, none found or not.
 #[test]
 fn the_state_stays_after_a_finish() {
-    let orders = [FINISH, narrow(BOARD, 2), FINISH, [9; 8]].concat();
-    let (number, space) = ran(&harbour(), &orders, 72 * 5);
-    assert_eq!(number, 3);
     let expected = [
         answer([0, 1, 0, 0, 0], &[7, 3, 3]),
         answer([0, 1, 0, 1, 0], &[1, 1, 1]),
@@ -108,7 +95,7 @@ fn the_state_stays_after_a_finish() {
         answer([0, 1, 0, 1, 2], &[1, 1, 2]),
         answer([20, 1, 0, 0, 2], &[7, 3, 2]),
     ];
-    assert_eq!(space, expected.concat());
+    gives(&[FINISH, narrow(BOARD, 2), FINISH, [9; 8]], 3, &expected);
 }
 
 /// "the lowest of these numbers", then 10, then 11; a refused run touches nothing.

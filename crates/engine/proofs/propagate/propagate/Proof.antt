@@ -53,21 +53,21 @@ element-copy-out-if1 c = search needs
 returns : tie.Need-returns Inv-loop μ-loop
 returns c = going-failed _ (c .before .before .before .before .before .before .before .before .before .before .before .before .pre .0) (c .before .before .before .before .before .before .before .before .before .before .before .before .pre .1) (c .before .before .before .before .before .before .before .before .before .before .loop .inv) (c .before .before .before .before .before .before .before .before .first-waiting .ensures .2) (c .before .before .revise .ensures) (c .if1 .taken)
 
-others-waiting-requires : tie.Need-others-waiting-requires Inv-loop μ-loop
-others-waiting-requires c κs = search needs
+others-requires : tie.Need-others-requires Inv-loop μ-loop
+others-requires c κs = search needs
 
 wake-requires : tie.Need-wake-requires Inv-loop μ-loop
-wake-requires c κs = (omega (arith, c .others-waiting .ensures .1, c .before .before .before .before .before .before .before .before .before .before .before .before .loop .inv .small), c .before .before .before .before .before .before .before .before .before .before .first-waiting .ensures .1, length-set (c .before .before .before .before .before .before .before .before .before .before .before .before .loop .changed) (c .before .before .before .before .before .before .before .before .before .before .first-waiting .result) 0 ∙ c .before .before .before .before .before .before .before .before .before .before .before .before .loop .inv .size, getD-set-same (c .before .before .before .before .before .before .before .before .before .before .before .before .loop .changed) (c .before .before .before .before .before .before .before .before .before .before .first-waiting .result) 0 0 (omega (arith, c .before .before .before .before .before .before .before .before .before .before .before .before .loop .inv .size, c .before .before .before .before .before .before .before .before .before .before .first-waiting .ensures .1)))
+wake-requires c κs = (omega (arith, c .others .ensures .1, c .before .before .before .before .before .before .before .before .before .before .before .before .loop .inv .small), c .before .before .before .before .before .before .before .before .before .before .first-waiting .ensures .1, length-set (c .before .before .before .before .before .before .before .before .before .before .before .before .loop .changed) (c .before .before .before .before .before .before .before .before .before .before .first-waiting .result) 0 ∙ c .before .before .before .before .before .before .before .before .before .before .before .before .loop .inv .size, getD-set-same (c .before .before .before .before .before .before .before .before .before .before .before .before .loop .changed) (c .before .before .before .before .before .before .before .before .before .before .first-waiting .result) 0 0 (omega (arith, c .before .before .before .before .before .before .before .before .before .before .before .before .loop .inv .size, c .before .before .before .before .before .before .before .before .before .before .first-waiting .ensures .1)))
 
 loop-less : tie.Need-loop-less Inv-loop μ-loop
 loop-less c = going-less _ (c .before .before .before .before .before .before .before .before .before .before .before .before .before .before .before .pre .0) (c .before .before .before .before .before .before .before .before .before .before .before .before .before .before .before .pre .1) (c .before .before .before .before .before .before .before .before .before .before .before .before .before .loop .inv) (c .before .before .before .before .before .before .before .before .before .before .before .first-waiting .ensures .2) (c .before .before .before .before .before .revise .ensures)
-    (subst⁻¹ (λ (t : ℕ). Cleared (c .before .before .before .before .before .before .before .before .before .before .before .before .before .loop .left) (c .before .others-waiting .result) t) (c .before .before .before .before .before .before .before .before .before .before .before .first-waiting .ensures .0) (c .before .others-waiting .ensures .0))
-    (search needs) (omega (arith, c .before .others-waiting .ensures .1, c .before .before .before .before .before .before .before .before .before .before .before .before .before .loop .inv .small)) (c .wake .ensures) (c .before .others-waiting .ensures .1)
+    (subst⁻¹ (λ (t : ℕ). Cleared (c .before .before .before .before .before .before .before .before .before .before .before .before .before .loop .left) (c .before .others .result) t) (c .before .before .before .before .before .before .before .before .before .before .before .first-waiting .ensures .0) (c .before .others .ensures .0))
+    (search needs) (omega (arith, c .before .others .ensures .1, c .before .before .before .before .before .before .before .before .before .before .before .before .before .loop .inv .small)) (c .wake .ensures) (c .before .others .ensures .1)
 
 loop-again : tie.Need-loop-again Inv-loop μ-loop
 loop-again c = going-on _ (c .before .before .before .before .before .before .before .before .before .before .before .before .before .before .before .pre .0) (c .before .before .before .before .before .before .before .before .before .before .before .before .before .before .before .pre .1) (c .before .before .before .before .before .before .before .before .before .before .before .before .before .loop .inv) (c .before .before .before .before .before .before .before .before .before .before .before .first-waiting .ensures .2) (c .before .before .before .before .before .revise .ensures)
-    (subst⁻¹ (λ (t : ℕ). Cleared (c .before .before .before .before .before .before .before .before .before .before .before .before .before .loop .left) (c .before .others-waiting .result) t) (c .before .before .before .before .before .before .before .before .before .before .before .first-waiting .ensures .0) (c .before .others-waiting .ensures .0))
-    (search needs) (omega (arith, c .before .others-waiting .ensures .1, c .before .before .before .before .before .before .before .before .before .before .before .before .before .loop .inv .small)) (c .wake .ensures)
+    (subst⁻¹ (λ (t : ℕ). Cleared (c .before .before .before .before .before .before .before .before .before .before .before .before .before .loop .left) (c .before .others .result) t) (c .before .before .before .before .before .before .before .before .before .before .before .first-waiting .ensures .0) (c .before .others .ensures .0))
+    (search needs) (omega (arith, c .before .others .ensures .1, c .before .before .before .before .before .before .before .before .before .before .before .before .before .loop .inv .small)) (c .wake .ensures)
 
 returns-2 : tie.Need-returns-2 Inv-loop μ-loop
 returns-2 c = going-done _ (c .before .before .before .pre .0) (c .before .before .before .pre .1) (c .before .loop .inv) (c .loop-test .left)
@@ -89,7 +89,7 @@ propagate-spec =
     revise-requires
     element-copy-out-if1
     returns
-    others-waiting-requires
+    others-requires
     wake-requires
     loop-less
     loop-again

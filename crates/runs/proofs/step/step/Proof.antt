@@ -32,7 +32,7 @@ returns-2 : tie.Need-returns-2
 returns-2 c = step-finishes _ (c .before .before .before .before .before .before .before .before .before .refusal .ensures) (c .before .before .before .before .before .before .before .before .step .ensures) _ (c .before .before .before .before .before .before .before .before .before .before .before .before .before .pre .4) (omega (arith, c .before .before .before .before .if2 .taken)) (c .before .before .before .before .before .before .if1 .left) (c .before .before .show-finish .ensures)
 
 show-requires-2 : tie.Need-show-requires-2
-show-requires-2 c κs = let q = step-small _ (c .before .before .before .before .before .before .refusal .ensures) (c .before .before .before .before .before .step .ensures) (c .before .before .before .before .before .before .before .before .before .before .pre .2) in (c .before .before .before .before .before .before .before .before .before .before .pre .0, c .before .before .before .before .before .before .before .before .before .before .pre .1, q .1, omega arith, omega (arith, c .before .before .before .before .before .before .before .before .before .before .pre .4), omega arith, q .0)
+show-requires-2 c κs = let q = step-small _ (c .before .before .before .before .before .before .refusal .ensures) (c .before .before .before .before .before .step .ensures) (c .before .before .before .before .before .before .before .before .before .before .pre .2) in (c .before .before .before .before .before .before .before .before .before .before .pre .0, c .before .before .before .before .before .before .before .before .before .before .pre .1, q .1, omega arith, omega (arith, c .before .before .before .before .before .before .before .before .before .before .pre .4), omega arith, omega (arith, q .0))
 
 same-length-3 : tie.Need-same-length-3
 same-length-3 c = search needs

@@ -4,7 +4,7 @@ use mathlib.Core.List.{List, [], _++_, _∷_, append-assoc, append-nil}
 use Prim.Native.Nat.{_%_, _*_, _+_, _/_, _<_, _≤_, suc, zero, ℕ}
 use native.Mathlib.Numerals.{add-one}
 use native.Mathlib.Omega.{arith}
-use lib.ListN.{drop, drop-of-length-le, getD, length, length-append, length-drop, set, take, take-append-drop}
+use lib.ListN.{drop, drop-of-length-le, getD, length, length-append, set, take, take-append-drop}
 use lib.Seq.{drop-append-add, drop-drop, length-take-le, sets, sets-eq, take-at}
 use Rattle.model.specs.Answers.{Answer, answerBytes, domainBytes, wordBytes}
 use Rattle.answers.specs.Parts.{over}
@@ -36,10 +36,6 @@ head-stored xs {refused} {status} {depth} {outcome} {done} h e f g k l =
 -- the same bytes at the same place
 pub over-same : (xs : List ℕ) {a b : ℕ} {ys zs : List ℕ} → a ≡ b → ys ≡ zs → over xs a ys ≡ over xs b zs
 over-same xs p q = ap₂ (over xs) p q
-
-pub over-length : (xs : List ℕ) (a : ℕ) (ys : List ℕ) → a + length ys ≤ length xs → length (over xs a ys) ≡ length xs
-unfolding over
-over-length xs a ys h = simp (length-append, length-take-le a xs (omega arith), length-drop) (omega arith)
 
 pub over-none : (xs : List ℕ) (a : ℕ) → over xs a [] ≡ xs
 unfolding over
@@ -149,7 +145,3 @@ whole {head} {out} xs a s p q =
 pub answer-next : {xs : List ℕ} (ws space ys : List ℕ) (i : ℕ) → xs ≡ ws ++ drop (72 * i) space → length ws ≡ 72 * i → length ys ≡ 72
     → over xs (72 * i) ys ≡ (ws ++ ys) ++ drop (72 * (i + 1)) space
 answer-next {xs} ws space ys i e s l = over-next xs ws ys space (72 * i) (72 * (i + 1)) s (omega arith) e
-
--- then they are one more
-pub next-length : (ws : List ℕ) (a : Answer) (i : ℕ) → length ws ≡ 72 * i → length (ws ++ answerBytes a) ≡ 72 * (i + 1)
-next-length ws a i e = omega (arith, length-append ws (answerBytes a), answer-length a)

@@ -14,7 +14,7 @@ use lib.ListN.{getD, length, length-set, set}
 use lib.Seq.{getD-set-other, getD-set-same}
 use borrow.Author.Tests.{eq-eqb, eqb-false, eqb-true, le-leb, le-ltb, lt-leb, lt-ltb, ne-eqb}
 use Rattle.model.specs.Masks.{bit}
-use Rattle.model.specs.Orders.{Entry, argument, before, byte, checkpoint, depth, domains, kind, mask, narrowed, nonzero, outside, push, refusal, trailFrom}
+use Rattle.model.specs.Orders.{Entry, argument, before, byte, checkpoint, depth, domains, kind, mask, narrowed, nonzero, outside, refusal}
 use Rattle.model.specs.Tests.{NoneIn, anyBelow}
 use Rattle.model.proofs.Firsts.{none-any}
 use Rattle.model.proofs.Masks.{bit-and, bit-of-zero, some-bit}
@@ -25,7 +25,7 @@ use Rattle.book.specs.Decoding.{bookOf}
 use Rattle.book.specs.Head.{columnsOf, valuesOf}
 use Rattle.book.specs.Verdicts.{Accepted}
 use Rattle.words.proofs.Ones.{complement}
-use Rattle.engine.specs.Holds.{BackHolds, Chain, ChainHolds, Holds, MarkHolds, NarrowHolds, Refuses, SomeSession, Stepped, noState}
+use Rattle.engine.specs.Holds.{BackHolds, Holds, MarkHolds, NarrowHolds, Refuses, SomeSession, Stepped, noState}
 use Rattle.engine.specs.Openings.{placesBelow}
 use Rattle.engine.specs.Sessions.{Narrows, StateIs}
 use Rattle.engine.specs.declared.session.Session.{Session}
@@ -191,13 +191,3 @@ module _ (b : List ℕ) (s : Session) (o : List ℕ) where
       back-room k =
           let r = accepted-back (bookOf b) (h .stands) o k (accepted (h .stands) (h .holds)) in
           (omega (arith, r .0), omega (arith, r .1, h .holds .deep), omega (arith, h .holds .few, h .holds .deep))
-
--- ---- whole lists
-pub chain-from : (b : List ℕ) (os : List (List ℕ)) (L : List Entry) (s t : Session) → Holds b L s → Chain b s os t → Holds b (trailFrom (bookOf b) L os) t
-unfolding trailFrom
-chain-from b [] L s t h e = subst (λ (x : Session). Holds b L x) e h
-chain-from b (o ∷ os) L s t h (m, p, c) = chain-from b os (push (bookOf b) L o) m t (p L h) c
-
--- the statement of specs/Holds.antt
-pub chainHolds : ChainHolds
-chainHolds b os s t h c = chain-from b os [] s t h c

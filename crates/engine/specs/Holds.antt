@@ -3,7 +3,7 @@ use mathlib.Core.Path.{_≡_}
 use mathlib.Core.List.{List, [], _++_, _∷_}
 use Prim.Native.Nat.{_<_, _≤_, suc, ℕ}
 use lib.ListN.{getD, length}
-use Rattle.model.specs.Orders.{Entry, before, checkpoint, depth, kind, narrowed, push, refusal, trail}
+use Rattle.model.specs.Orders.{Entry, before, checkpoint, depth, kind, narrowed, push, refusal}
 use Rattle.book.specs.Decoding.{bookOf}
 use Rattle.engine.specs.Sessions.{StateIs}
 use Rattle.engine.specs.declared.session.Session.{Session}
@@ -51,13 +51,3 @@ Refuses b d o r = (L : List Entry) → d ≡ depth L → r ≡ refusal (bookOf b
 -- whatever trail stood, what the order o makes of it stands
 abbrev pub Stepped : List ℕ → Session → List ℕ → Session → Type 0
 Stepped b s o t = (L : List Entry) → Holds b L s → Holds b (push (bookOf b) L o) t
-
--- ---- whole lists
--- "Each order gets the session that the one before it gave back": from s the orders lead to t
-abbrev pub Chain : List ℕ → Session → List (List ℕ) → Session → Type 0
-Chain b s [] t = s ≡ t
-Chain b s (o ∷ os) t = (m : Session) × Stepped b s o m × Chain b m os t
-
--- any list, from a session of the empty trail, ends in a session of its own trail: proved in proofs/Steps.antt
-abbrev pub ChainHolds : Type 0
-ChainHolds = (b : List ℕ) (os : List (List ℕ)) (s t : Session) → Holds b [] s → Chain b s os t → Holds b (trail (bookOf b) os) t

@@ -72,10 +72,6 @@ mask-ext (suc k) m n hm hn h =
     let r : m / 2 ≡ n / 2 = mask-ext k (m / 2) (n / 2) (omega arith) (omega arith) (λ v l. sym (bit-suc v m) ∙ h (suc v) (omega arith) ∙ bit-suc v n) in
     omega arith
 
--- the mask is the mask of its places
-pub maskOf-bits : (k m : ℕ) → m < 2 ^ k → maskOf k (λ v. bit v m) ≡ m
-maskOf-bits k m h = mask-ext k _ m (maskOf-lt k (λ v. bit v m)) h (λ v l. bit-maskOf k (λ j. bit j m) v l)
-
 -- a mask that is not 0 has a place
 pub some-bit : (k m : ℕ) → m < 2 ^ k → 0 < m → (v : ℕ) × (v < k) × (bit v m ≡ true)
 some-bit zero m h p = absurd (omega arith)

@@ -3,16 +3,15 @@ use mathlib.Core.Path.{_≡_, refl, sym, _∙_}
 use mathlib.Core.Bool.{Bool, true, false, cond, _&&_, _||_, true≢false}
 use mathlib.Core.Logic.{_⊎_, inl, inr}
 use mathlib.Core.List.{List, [], _∷_, _++_}
-use Prim.Native.Nat.{ℕ, zero, suc, _≤_, _<_}
+use Prim.Native.Nat.{ℕ, suc, _≤_, _<_}
 use native.Mathlib.Omega.{arith}
 use lib.Dec.{eqb, ltb, leb}
 use lib.ListN.{getD}
 use borrow.Author.Tests.{eqb-true, eqb-false, ne-eqb, ltb-false, leb-false}
 use Rattle.model.specs.Masks.{bit}
 use Rattle.model.specs.Books.{Book, columnCount}
-use Rattle.model.specs.Orders.{kind, argument, mask, nonzero, Entry, narrowed, checkpoint, depth, before, Cause, refuse_if_, firstCause, outside, refusal, applied, push, trailFrom}
+use Rattle.model.specs.Orders.{kind, argument, mask, nonzero, Entry, narrowed, checkpoint, depth, before, Cause, refuse_if_, firstCause, outside, refusal, applied, push}
 use Rattle.model.proofs.Tests.{or-l, or-r, either, anyBelow-none}
-use Rattle.model.proofs.Trails.{depth-narrowed, depth-checkpoint, depth-before}
 
 -- "An order's refusal goes by its bytes, the book and this list only", and of the list by its depth alone: being dead is no cause
 pub refusal-depth : (b : Book) (L M : List Entry) (o : List ℕ) → depth L ≡ depth M → refusal b L o ≡ refusal b M o
@@ -121,20 +120,3 @@ module _ (b : Book) (L : List Entry) (o : List ℕ) where
   -- a finish leaves the trail as it is, accepted or refused
   pub push-finish : kind o ≡ 4 → push b L o ≡ L
   push-finish k = push-ind (λ M. M ≡ L) refl (λ q e. absurd (omega arith)) (λ q e. absurd (omega arith)) (λ q e. absurd (omega arith))
-
-  -- never more than 16 checkpoints stand
-  pub push-depth : depth L ≤ 16 → depth (push b L o) ≤ 16
-  push-depth h =
-      push-ind (λ M. depth M ≤ 16) h
-      (λ k e. rw (depth-narrowed L (argument o) (mask o)) h)
-      (λ k e. let x : depth L ≡ 16 → ⊥ = accepted-mark k e in rw (depth-checkpoint L) (omega arith))
-      (λ k e. let r = accepted-back k e in cut (argument o) (r .0) (r .1))
-    where
-      cut : (m : ℕ) → 0 < m → m ≤ depth L → depth (before m L) ≤ 16
-      cut zero p q = absurd (omega arith)
-      cut (suc m) p q = omega (arith, depth-before m L q)
-
-pub trail-depth : (b : Book) (os : List (List ℕ)) (L : List Entry) → depth L ≤ 16 → depth (trailFrom b L os) ≤ 16
-unfolding trailFrom
-trail-depth b [] L h = h
-trail-depth b (o ∷ os) L h = trail-depth b os (push b L o) (push-depth b L o h)

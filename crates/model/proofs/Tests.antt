@@ -135,11 +135,6 @@ module _ {A : Type 0} where
   allIn-mono [] f g h e = refl
   allIn-mono (x ∷ xs) f g h e = and-i (h x (and-l (f x) _ e)) (allIn-mono xs f g h (and-r (f x) _ e))
 
-  pub anyIn-mono : (l : List A) (f g : A → Bool) → ((x : A) → f x ≡ true → g x ≡ true) → anyIn l f ≡ true → anyIn l g ≡ true
-  unfolding anyIn
-  anyIn-mono [] f g h e = e
-  anyIn-mono (x ∷ xs) f g h e = or-mono (h x) (anyIn-mono xs f g h) e
-
   pub allIn-e : (l : List A) (f : A → Bool) → allIn l f ≡ true → (x : A) → List·Memᴰ x l → f x ≡ true
   unfolding allIn
   allIn-e (x ∷ xs) f e y (List·Memᴰ·head p) = ap f p ∙ and-l (f x) _ e

@@ -15,6 +15,8 @@ fn main() {
     if library.is_file() {
         println!("cargo::rustc-link-search=native={}", folder.display());
         println!("cargo::rustc-link-lib=static=service");
+        // For the tests that look into it, or link it to a program in C.
+        println!("cargo::rustc-env=FITTING_LIBRARY={}", library.display());
     } else {
         println!(
             "cargo::error=the proved library is not at {}: run `rt staticlib service` at the \

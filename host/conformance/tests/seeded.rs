@@ -59,7 +59,7 @@ fn every_number_agrees() {
 
 /// The view of an accepted book as plain data.
 fn read(book: fitting::Book) -> Book {
-    let values = (0..book.columns()).map(|column| book.values(column).end);
+    let values = (0..book.columns()).map(|column| book.values(column).len() as u8);
     let sheets = book.sheets().map(|sheet| Sheet {
         columns: sheet.columns().to_vec(),
         rows: sheet.rows().map(<[u8]>::to_vec).collect(),

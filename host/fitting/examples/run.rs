@@ -1,8 +1,8 @@
 //! Runs orders over a book file and prints a line for each answer:
-//! `cargo run --release -p fitting --example run -- books/harbour.bin mark narrow 2 1 finish back 1`.
+//! `cargo run --release -p fitting --example run -- ../books/harbour.bin mark narrow 2 1 finish back 1`.
 //! The exit status is 0 if the run is accepted, 1 if it is not, 2 if the words can't be read.
 
-use fitting::{Order, Outcome};
+use fitting::{Order, OrderList, Outcome, Space, Values};
 use std::env;
 use std::fs;
 use std::process::ExitCode;
@@ -17,7 +17,7 @@ fn main() -> ExitCode {
         eprintln!("an order is narrow COLUMN MASK, mark, back MARK or finish");
         return ExitCode::from(2);
     };
-    match fs::read(&file).map(|book| lines(&book, &orders)) {
+    match fs::read(&file).map(|book| lines(&book, orders)) {
         Ok(Ok(lines)) => {
             print!("{lines}");
             ExitCode::SUCCESS
@@ -40,7 +40,7 @@ fn orders(mut words: impl Iterator<Item = String>) -> Option<Vec<Order>> {
         orders.push(match word.as_str() {
             "narrow" => Order::Narrow {
                 column: u8::try_from(number()?).ok()?,
-                mask: number()?,
+                values: Values::from_mask(number()?),
             },
             "mark" => Order::Mark,
             "back" => Order::Back {
@@ -53,18 +53,20 @@ fn orders(mut words: impl Iterator<Item = String>) -> Option<Vec<Order>> {
     Some(orders)
 }
 
-fn lines(book: &[u8], orders: &[Order]) -> Result<String, fitting::Refusal> {
-    let mut space = vec![0; fitting::space_for(orders.len())];
+fn lines(bytes: &[u8], orders: Vec<Order>) -> Result<String, fitting::Refusal> {
+    let book = fitting::check(bytes)?;
+    let list = OrderList::of(orders)?;
+    let mut space = Space::new();
     let mut lines = String::new();
-    for (i, answer) in fitting::run(book, orders, &mut space)?.enumerate() {
+    for (i, answer) in book.run(&list, &mut space).iter().enumerate() {
         let what = match (answer.refusal(), answer.outcome()) {
             (Some(refusal), _) => refusal.to_string(),
             (None, Some(Outcome::Found)) => "found".to_string(),
             (None, Some(Outcome::None)) => "no full set".to_string(),
-            (None, None) => format!("{:?}, depth {}", answer.status(), answer.depth()),
+            (None, None) => format!("{}, depth {}", answer.status(), answer.depth()),
         };
-        let domains: Vec<String> = answer.domains().map(|mask| format!("{mask:b}")).collect();
-        lines += &format!("{i}: {what}: {}\n", domains.join(" "));
+        let domains = answer.domains().map(|left| format!("{:b}", left.mask()));
+        lines += &format!("{i}: {what}: {}\n", domains.collect::<Vec<_>>().join(" "));
     }
     Ok(lines)
 }

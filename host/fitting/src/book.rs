@@ -3,28 +3,34 @@
 //! The library has accepted the bytes, so every read below finds what it looks for. A byte that
 //! isn't there reads as zero all the same, so that nothing here can panic.
 
-use std::fmt;
-use std::ops::Range;
+use crate::{calls, Answers, OrderList, Space, Values};
+use core::fmt;
+use core::hash::{Hash, Hasher};
 
 const BLOCK: usize = 512;
 const ROWS_OF_A_BLOCK: usize = 127;
-const VALUES: usize = 8;
+const COUNTS: usize = 8;
 const ENTRIES: usize = 24;
 const ENTRY: usize = 8;
 
 /// An accepted book: a view that borrows its bytes.
 ///
-/// It is as small as a slice, so it is copied freely. Only [`check`](crate::check) makes one.
+/// It is as small as a slice, so it is copied freely. Only [`check`](crate::check) makes one. Columns,
+/// like values, are numbers of type `u8`.
 ///
 /// ```
 /// # let bytes = conformance::write(&conformance::harbour());
 /// let book = fitting::check(&bytes)?;
-/// let sizes: Vec<usize> = (0..book.columns()).map(|column| book.values(column).len()).collect();
-/// assert_eq!(sizes, [3, 2, 2]);
+/// for column in 0..book.columns() {
+///     println!("column {column}: {}", book.values(column)); // column 0: 0 1 2
+/// }
 ///
+/// assert_eq!(book.sheets().len(), 2);
 /// let sheet = book.sheet(1).unwrap();
 /// assert_eq!(sheet.columns(), [1, 2]);
 /// assert_eq!(sheet.rows().collect::<Vec<_>>(), [[0, 0], [0, 1], [1, 1]]);
+///
+/// assert_eq!(book.bytes(), bytes); // the same bytes, not a copy
 /// # Ok::<(), fitting::Refusal>(())
 /// ```
 #[derive(Clone, Copy, PartialEq, Eq, Hash)]
@@ -44,17 +50,50 @@ impl<'a> Book<'a> {
     }
 
     /// The number of columns, 1 to 16.
-    pub fn columns(&self) -> usize {
+    pub fn columns(&self) -> u8 {
         self.byte(4)
     }
 
-    /// The values of a column, 0 to V − 1; V, its length, is 1 to 32. It is empty for a column that
-    /// the book doesn't have.
-    pub fn values(&self, column: usize) -> Range<u8> {
+    /// The values of a column, 0 to V − 1; V is 1 to 32. There is none in a column that the book
+    /// doesn't have.
+    ///
+    /// ```
+    /// # let bytes = conformance::write(&conformance::harbour());
+    /// # let book = fitting::check(&bytes)?;
+    /// assert_eq!(book.values(0).to_string(), "0 1 2");
+    /// assert!(book.values(3).is_empty());
+    /// # Ok::<(), fitting::Refusal>(())
+    /// ```
+    pub fn values(&self, column: u8) -> Values {
         if column < self.columns() {
-            0..self.bytes.get(VALUES + column).copied().unwrap_or(0)
+            Values::below(self.byte(COUNTS + usize::from(column)))
         } else {
-            0..0
+            Values::NONE
+        }
+    }
+
+    /// Runs a list over the book from the opening, and gives the answers, read from the space.
+    ///
+    /// With an accepted book, an [`OrderList`] and a [`Space`] no run is refused, so there is nothing
+    /// to handle; the theorem is `AnyRun .accepted-run` in `crates/runs/specs/Promises.antt`. A refused
+    /// *order* refuses no run: its answer says so.
+    ///
+    /// ```
+    /// # let bytes = conformance::write(&conformance::harbour());
+    /// # let book = fitting::check(&bytes)?;
+    /// use fitting::{OrderList, Space, Values};
+    ///
+    /// let mut list = OrderList::new();
+    /// list.narrow(2, Values::of([0])?)?;
+    /// let mut space = Space::new();
+    /// let left = book.run(&list, &mut space).last();
+    /// assert_eq!(left.domain(0).to_string(), "0 1");
+    /// # Ok::<(), Box<dyn std::error::Error>>(())
+    /// ```
+    pub fn run<'s>(&self, list: &OrderList, space: &'s mut Space) -> Answers<'s> {
+        match calls::run(self.bytes, list, &mut space.bytes) {
+            Ok(answers) => answers,
+            Err(refusal) => unreachable!("book, list and space are right, yet {refusal}"),
         }
     }
 
@@ -63,12 +102,16 @@ impl<'a> Book<'a> {
         &self,
     ) -> impl ExactSizeIterator<Item = Sheet<'a>> + DoubleEndedIterator + Clone + 'a {
         let book = *self;
-        (0..book.byte(5)).map(move |number| book.numbered(number))
+        (0..book.sheet_count()).map(move |number| book.numbered(number))
     }
 
     /// The sheet of this number, counted from 0, if the book has it.
     pub fn sheet(&self, number: usize) -> Option<Sheet<'a>> {
-        (number < self.byte(5)).then(|| self.numbered(number))
+        (number < self.sheet_count()).then(|| self.numbered(number))
+    }
+
+    fn sheet_count(&self) -> usize {
+        self.byte(5).into()
     }
 
     fn numbered(&self, number: usize) -> Sheet<'a> {
@@ -77,7 +120,7 @@ impl<'a> Book<'a> {
             .map(|n| self.row_count(n).div_ceil(ROWS_OF_A_BLOCK))
             .sum();
         Sheet {
-            columns: part(self.bytes, entry + 1, self.byte(entry)),
+            columns: part(self.bytes, entry + 1, self.byte(entry).into()),
             blocks: self.bytes.get(BLOCK * (1 + before)..).unwrap_or(&[]),
             rows: self.row_count(number),
         }
@@ -85,20 +128,19 @@ impl<'a> Book<'a> {
 
     fn row_count(&self, number: usize) -> usize {
         let entry = ENTRIES + ENTRY * number;
-        self.byte(entry + 6) + 256 * self.byte(entry + 7)
+        u16::from_le_bytes([self.byte(entry + 6), self.byte(entry + 7)]).into()
     }
 
-    fn byte(&self, offset: usize) -> usize {
-        self.bytes.get(offset).copied().map_or(0, usize::from)
+    fn byte(&self, offset: usize) -> u8 {
+        self.bytes.get(offset).copied().unwrap_or(0)
     }
 }
 
 impl fmt::Debug for Book<'_> {
     fn fmt(&self, f: &mut fmt::Formatter<'_>) -> fmt::Result {
-        let values: Vec<u8> = (0..self.columns())
-            .map(|column| self.values(column).end)
-            .collect();
-        let sheets: Vec<Sheet> = self.sheets().collect();
+        let counts = (0..self.columns()).map(|column| self.values(column).len());
+        let values = fmt::from_fn(|f| f.debug_list().entries(counts.clone()).finish());
+        let sheets = fmt::from_fn(|f| f.debug_list().entries(self.sheets()).finish());
         f.debug_struct("Book")
             .field("values", &values)
             .field("sheets", &sheets)
@@ -107,6 +149,8 @@ impl fmt::Debug for Book<'_> {
 }
 
 /// A sheet of an accepted book: the columns it speaks of, and the rows of values that go together.
+///
+/// Two are equal when they have the same columns, and the same rows in the same order.
 #[derive(Clone, Copy)]
 pub struct Sheet<'a> {
     columns: &'a [u8],
@@ -130,6 +174,7 @@ impl<'a> Sheet<'a> {
     /// let sheet = book.sheet(0).unwrap();
     /// assert_eq!(sheet.rows().len(), 4);
     /// assert!(sheet.rows().any(|row| row == [2, 1]));
+    /// assert_eq!((sheet.row(3), sheet.row(4)), (Some(&[2, 1][..]), None));
     /// # Ok::<(), fitting::Refusal>(())
     /// ```
     pub fn rows(
@@ -151,6 +196,21 @@ impl<'a> Sheet<'a> {
             block + 4 * (number % ROWS_OF_A_BLOCK),
             self.columns.len(),
         )
+    }
+}
+
+impl PartialEq for Sheet<'_> {
+    fn eq(&self, other: &Self) -> bool {
+        self.columns == other.columns && self.rows().eq(other.rows())
+    }
+}
+
+impl Eq for Sheet<'_> {}
+
+impl Hash for Sheet<'_> {
+    fn hash<H: Hasher>(&self, state: &mut H) {
+        self.columns.hash(state);
+        self.rows().for_each(|row| row.hash(state));
     }
 }
 

@@ -1,97 +1,72 @@
-//! The fitting service for Rust hosts.
+//! The fitting service for Rust hosts: books checked and orders run by a library that is proved to do
+//! what it promises.
 //!
-//! [`check`] hands the bytes of a book to the proved library. What it accepts comes back as a
-//! [`Book`], a typed view that borrows the bytes; what it refuses comes back as a [`Refusal`],
-//! which says why and where.
-//!
-//! ```
-//! # let bytes = conformance::write(&conformance::harbour());
-//! // `bytes` holds the harbour book: a width of three values, a motor of two, a board of two.
-//! match fitting::check(&bytes) {
-//!     Ok(book) => {
-//!         assert_eq!(book.columns(), 3);
-//!         assert_eq!(book.values(0), 0..3);
-//!         for sheet in book.sheets() {
-//!             println!("columns {:?}", sheet.columns());
-//!             for row in sheet.rows() {
-//!                 println!("    {row:?}");
-//!             }
-//!         }
-//!     }
-//!     Err(refusal) => eprintln!("{refusal}"),
-//! }
-//! ```
-//!
-//! [`run`] hands a list of [`Order`]s over a book to it: the [`Answers`] are read from the space that
-//! the host has lent, one for the opening and one for each order.
+//! A buyer's click, served:
 //!
 //! ```
 //! # let bytes = conformance::write(&conformance::harbour());
-//! use fitting::{Order, Status};
+//! use fitting::{OrderList, Space, Values};
 //!
-//! let orders = [Order::Narrow { column: 0, mask: 0b100 }, Order::Finish];
-//! let mut space = [0; fitting::space_for(2)];
-//! for answer in fitting::run(&bytes, &orders, &mut space)? {
-//!     let domains: Vec<u32> = answer.domains().collect();
-//!     println!("{:?} {:?} {domains:?}", answer.refusal(), answer.status());
+//! // Once for each book. `bytes` is the harbour book: a width of 3 values, a motor of 2, a board of 2.
+//! let book = fitting::check(&bytes)?;
+//!
+//! // Once for each buyer: what was clicked so far. Here, board 0.
+//! let mut list = OrderList::new();
+//! list.narrow(2, Values::of([0])?)?;
+//!
+//! // Once for each thread, and used again.
+//! let mut space = Space::new();
+//! let left = book.run(&list, &mut space).last();
+//! for (column, values) in left.domains().enumerate() {
+//!     println!("column {column}: {values}");
 //! }
-//! # Ok::<(), fitting::Refusal>(())
+//! assert_eq!(left.domain(0).to_string(), "0 1");
+//! # Ok::<(), Box<dyn std::error::Error>>(())
 //! ```
 //!
-//! No book is copied, and what the library has accepted is not looked at again: its answer is a
-//! theorem about its code, so books and answers are read as they lie. No input makes any function
-//! here panic.
+//! - [`check`] gives a [`Book`], a view of the bytes, or a [`Refusal`]: why, and where.
+//! - An [`OrderList`] takes [`Order`]s, and has no length that a run refuses.
+//! - [`Book::run`] gives the [`Answers`]: the opening, then one [`Answer`] for each order. A refused
+//!   order has its [`OrderRefusal`].
+//! - [`run`] takes the bytes of a book and of a space from anywhere, and may be refused.
+//! - [`check_number`] and [`run_number`] are the library's two calls, with nothing around them.
+//!
+//! The crate has no `alloc`, so nothing here allocates. No book is copied, and what the library has
+//! accepted is not looked at again: its answer is a theorem about its code, so books and answers are
+//! read as they lie. No input makes any function here panic. Every type is `Send` and `Sync`, and no
+//! call keeps anything, so threads may call as they like.
 
+#![no_std]
 #![deny(unsafe_code)]
 
+#[forbid(unsafe_code)]
 mod answer;
+#[forbid(unsafe_code)]
 mod book;
+#[forbid(unsafe_code)]
+mod calls;
 mod library;
+#[forbid(unsafe_code)]
+mod list;
+#[forbid(unsafe_code)]
 mod order;
+#[forbid(unsafe_code)]
 mod refusal;
-mod run;
+#[forbid(unsafe_code)]
+mod space;
+#[forbid(unsafe_code)]
+mod values;
 
-pub use answer::{Answer, Answers, Outcome, Status};
+pub use answer::{Answer, AnswerIter, Answers, Outcome, Status};
 pub use book::{Book, Sheet};
+pub use calls::{check, check_number, run, run_number};
+pub use list::{Full, OrderIter, OrderList};
 pub use order::{Order, OrderRefusal};
 pub use refusal::Refusal;
-pub use run::{run, run_number, space_for, MOST_ORDERS};
+pub use space::{space_for, Space};
+pub use values::{ValueIter, Values};
 
-/// Checks a book, and gives a view of it if it is accepted.
-///
-/// ```
-/// use fitting::Refusal;
-///
-/// // The smallest book: one column of two values, no sheet.
-/// let mut bytes = [0; 512];
-/// bytes[..4].copy_from_slice(b"FGB1");
-/// bytes[4] = 1;
-/// bytes[8] = 2;
-/// bytes[508..].copy_from_slice(&0x3142_474A_u32.to_le_bytes()); // the block's check
-///
-/// let book = fitting::check(&bytes).unwrap();
-/// assert_eq!(book.columns(), 1);
-/// assert_eq!(book.values(0), 0..2);
-/// assert_eq!(book.sheets().len(), 0);
-///
-/// bytes[8] = 3;
-/// assert_eq!(fitting::check(&bytes), Err(Refusal::Check { block: 0 }));
-/// ```
-pub fn check(book: &[u8]) -> Result<Book<'_>, Refusal> {
-    match Refusal::from_number(check_number(book)) {
-        None => Ok(Book::accepted(book)),
-        Some(refusal) => Err(refusal),
-    }
-}
-
-/// Checks a book, and gives the library's own number: refusal × 65,536 + place, or, accepted,
-/// columns × 16 + sheets.
-///
-/// ```
-/// # let bytes = conformance::write(&conformance::harbour());
-/// assert_eq!(fitting::check_number(&bytes), 3 * 16 + 2);
-/// assert_eq!(fitting::check_number(b"no book"), 65_536);
-/// ```
-pub fn check_number(book: &[u8]) -> u64 {
-    library::check(book)
-}
+/// The code of the README, so that it is compiled and run.
+#[cfg(doctest)]
+#[doc = include_str!("../README.md")]
+struct Readme;

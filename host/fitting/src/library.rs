@@ -2,12 +2,9 @@
 
 #![allow(unsafe_code)]
 
+// As crates/service/src/lib.rt has them, a slice being a pointer and then its length; tests/declared.rs compares.
 unsafe extern "C" {
-    /// `uint64_t fitting_check(const uint8_t *book, size_t len)`
-    fn fitting_check(book: *const u8, len: usize) -> u64;
-
-    /// `uint64_t fitting_run(const uint8_t *book, size_t book_len, const uint8_t *orders,
-    /// size_t orders_len, uint8_t *answers, size_t answers_len)`
+    fn fitting_check(book: *const u8, book_len: usize) -> u64;
     fn fitting_run(
         book: *const u8,
         book_len: usize,
@@ -20,7 +17,7 @@ unsafe extern "C" {
 
 /// The library's number for these bytes.
 pub(crate) fn check(book: &[u8]) -> u64 {
-    // SAFETY: the library takes any bytes. It reads only the `len` bytes at `book`, which the slice
+    // SAFETY: the library takes any bytes. It reads only the `book_len` bytes at `book`, which the slice
     // keeps readable and unchanged during the call; it writes none of them and keeps no pointer.
     unsafe { fitting_check(book.as_ptr(), book.len()) }
 }

@@ -1,25 +1,28 @@
 //! The orders of a list, and why one is refused.
 
-use std::error::Error;
-use std::fmt;
+use crate::Values;
+use core::error::Error;
+use core::fmt;
 
 /// One order of a list. Columns count from 0, marks from 1.
 ///
 /// ```
-/// use fitting::Order;
+/// use fitting::{Order, Values};
 ///
-/// let order = Order::Narrow { column: 2, mask: 0b101 };
+/// let order = Order::Narrow { column: 2, values: Values::of([0, 2])? };
 /// assert_eq!(order.bytes(), [1, 2, 0, 0, 5, 0, 0, 0]);
-/// assert_eq!(Order::from([9; 8]).bytes(), [9; 8]);
+/// assert_eq!(Order::from(order.bytes()), order);
+/// assert_eq!(Order::from([9; 8]), Order::Raw([9; 8]));
+/// # Ok::<(), fitting::OrderRefusal>(())
 /// ```
 #[derive(Clone, Copy, Debug, PartialEq, Eq, Hash)]
 pub enum Order {
-    /// Leaves a column only values of this mask, bit v for value v.
+    /// Leaves a column only these values.
     Narrow {
         /// The column.
         column: u8,
-        /// What may stay. 0 is accepted, and makes the session dead.
-        mask: u32,
+        /// What may stay. No value at all is accepted, and makes the session dead.
+        values: Values,
     },
     /// Sets a mark; there can be 16 of them.
     Mark,
@@ -30,16 +33,16 @@ pub enum Order {
     },
     /// Looks for the first full set, and changes nothing.
     Finish,
-    /// Eight bytes as they come, right or wrong.
+    /// Eight bytes as they come. Where they are one of the others, they read back as that one.
     Raw([u8; 8]),
 }
 
 impl Order {
     /// The order as the library reads it.
-    pub fn bytes(self) -> [u8; 8] {
+    pub const fn bytes(self) -> [u8; 8] {
         match self {
-            Self::Narrow { column, mask } => {
-                let [a, b, c, d] = mask.to_le_bytes();
+            Self::Narrow { column, values } => {
+                let [a, b, c, d] = values.mask().to_le_bytes();
                 [1, column, 0, 0, a, b, c, d]
             }
             Self::Mark => [2, 0, 0, 0, 0, 0, 0, 0],
@@ -52,7 +55,16 @@ impl Order {
 
 impl From<[u8; 8]> for Order {
     fn from(bytes: [u8; 8]) -> Self {
-        Self::Raw(bytes)
+        match bytes {
+            [1, column, 0, 0, mask @ ..] => Self::Narrow {
+                column,
+                values: Values::from_mask(u32::from_le_bytes(mask)),
+            },
+            [2, 0, 0, 0, 0, 0, 0, 0] => Self::Mark,
+            [3, mark, 0, 0, 0, 0, 0, 0] => Self::Back { mark },
+            [4, 0, 0, 0, 0, 0, 0, 0] => Self::Finish,
+            raw => Self::Raw(raw),
+        }
     }
 }
 
@@ -63,7 +75,7 @@ impl From<[u8; 8]> for Order {
 ///
 /// assert_eq!(OrderRefusal::from_number(0), None);
 /// let refusal = OrderRefusal::from_number(24).unwrap();
-/// assert_eq!(refusal, OrderRefusal::Mark);
+/// assert_eq!((refusal, refusal.number()), (OrderRefusal::Mark, 24));
 /// assert_eq!(refusal.to_string(), "refusal 24: there is no such mark");
 /// ```
 #[derive(Clone, Copy, Debug, PartialEq, Eq, Hash)]
@@ -90,7 +102,7 @@ pub enum OrderRefusal {
 
 impl OrderRefusal {
     /// Reads byte 0 of an answer; `None` if it is 0, an accepted order.
-    pub fn from_number(number: u8) -> Option<Self> {
+    pub const fn from_number(number: u8) -> Option<Self> {
         match number {
             0 => None,
             20 => Some(Self::Kind),
@@ -104,7 +116,7 @@ impl OrderRefusal {
     }
 
     /// The refusal number, 20 to 25.
-    pub fn number(&self) -> u8 {
+    pub const fn number(&self) -> u8 {
         match *self {
             Self::Kind => 20,
             Self::Column => 21,
@@ -133,31 +145,3 @@ impl fmt::Display for OrderRefusal {
 }
 
 impl Error for OrderRefusal {}
-
-#[cfg(test)]
-mod tests {
-    use super::*;
-
-    #[test]
-    fn every_number_reads_back() {
-        for number in 0..=255 {
-            let refusal = OrderRefusal::from_number(number);
-            let read = refusal.map(|refusal| refusal.number());
-            assert_eq!(read, (number > 0).then_some(number));
-            let named = !matches!(refusal, None | Some(OrderRefusal::Other { .. }));
-            assert_eq!(named, (20..=25).contains(&number));
-        }
-    }
-
-    #[test]
-    fn orders_have_their_bytes() {
-        let narrow = Order::Narrow {
-            column: 15,
-            mask: 0x8421_0001,
-        };
-        assert_eq!(narrow.bytes(), [1, 15, 0, 0, 1, 0, 0x21, 0x84]);
-        assert_eq!(Order::Mark.bytes(), [2, 0, 0, 0, 0, 0, 0, 0]);
-        assert_eq!(Order::Back { mark: 16 }.bytes(), [3, 16, 0, 0, 0, 0, 0, 0]);
-        assert_eq!(Order::Finish.bytes(), [4, 0, 0, 0, 0, 0, 0, 0]);
-    }
-}

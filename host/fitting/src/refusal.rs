@@ -1,7 +1,7 @@
 //! Why a book, or a run, is refused, and where.
 
-use std::error::Error;
-use std::fmt;
+use core::error::Error;
+use core::fmt;
 
 /// The refusal number is above the low 16 bits, the place is in them.
 const PLACES: u64 = 65_536;
@@ -66,7 +66,7 @@ impl Refusal {
     /// assert_eq!(Refusal::from_number(50), None);
     /// assert_eq!(Refusal::from_number(4 * 65_536 + 3), Some(Refusal::Blocks { needed: 3 }));
     /// ```
-    pub fn from_number(number: u64) -> Option<Self> {
+    pub const fn from_number(number: u64) -> Option<Self> {
         let place = (number % PLACES) as u16;
         match (number / PLACES, place) {
             (0, _) => None,
@@ -82,7 +82,7 @@ impl Refusal {
     }
 
     /// The refusal number: 1 to 5 for a book, and 10 or 11 too for a run.
-    pub fn number(&self) -> u64 {
+    pub const fn number(&self) -> u64 {
         match *self {
             Self::Length => 1,
             Self::Check { .. } => 2,
@@ -97,7 +97,7 @@ impl Refusal {
 
     /// The place: a block, an offset in the head, a number of blocks or of bytes, by the kind of
     /// refusal.
-    pub fn place(&self) -> u16 {
+    pub const fn place(&self) -> u16 {
         match *self {
             Self::Length | Self::Orders => 0,
             Self::Check { block } | Self::Row { block } => block,
@@ -131,55 +131,3 @@ impl fmt::Display for Refusal {
 }
 
 impl Error for Refusal {}
-
-#[cfg(test)]
-mod tests {
-    use super::*;
-
-    #[test]
-    fn every_number_reads_back() {
-        for number in (0..=12).chain([1 << 16, u64::MAX / PLACES]) {
-            for place in [0, 1, 32, 33, 507, 65_535] {
-                let refusal = Refusal::from_number(number * PLACES + place);
-                let read = refusal.map(|refusal| (refusal.number(), u64::from(refusal.place())));
-                assert_eq!(read, (number > 0).then_some((number, place)));
-            }
-        }
-    }
-
-    #[test]
-    fn only_unnamed_numbers_are_other() {
-        for (number, place, named) in [
-            (1, 0, true),
-            (1, 1, false),
-            (5, 9, true),
-            (6, 0, false),
-            (10, 0, true),
-            (10, 1, false),
-            (11, 72, true),
-            (12, 0, false),
-        ] {
-            let refusal = Refusal::from_number(number * PLACES + place).unwrap();
-            assert_eq!(!matches!(refusal, Refusal::Other { .. }), named);
-        }
-    }
-
-    #[test]
-    fn every_refusal_has_its_sentence() {
-        let sentence = |number| Refusal::from_number(number).unwrap().to_string();
-        let length = "refusal 1: the length isn't a multiple of 512 from 512 to 16,896";
-        assert_eq!(sentence(PLACES), length);
-        let head = "refusal 3: the head field at byte 30 is wrong";
-        assert_eq!(sentence(3 * PLACES + 30), head);
-        let blocks = "refusal 4: the blocks aren't the 33 needed";
-        assert_eq!(sentence(4 * PLACES + 33), blocks);
-        let row =
-            "refusal 5: in block 7 a row value is too large or a byte that must be zero isn't";
-        assert_eq!(sentence(5 * PLACES + 7), row);
-        let orders = "refusal 10: the orders aren't a multiple of 8 bytes or exceed 2,048 bytes";
-        assert_eq!(sentence(10 * PLACES), orders);
-        let space = "refusal 11: the answers need 18504 bytes";
-        assert_eq!(sentence(11 * PLACES + 18_504), space);
-        assert_eq!(sentence(9 * PLACES + 2), "refusal 9: place 2");
-    }
-}

@@ -1,23 +1,16 @@
 //! The examples, run as the documents say.
 
-use std::env;
-use std::path::PathBuf;
-use std::process::{Command, Output};
+mod built;
+
+use std::process::Output;
 
 fn check(files: &[&str]) -> Output {
     example("check", files)
 }
 
-/// The example of this name, which cargo builds beside this test.
 fn example(name: &str, words: &[&str]) -> Output {
-    let test = env::current_exe().expect("a test has a file");
-    let built: PathBuf = test.ancestors().nth(2).expect("cargo's folder").into();
-    let books = concat!(env!("CARGO_MANIFEST_DIR"), "/../../books");
-    Command::new(built.join("examples").join(name))
-        .current_dir(books)
-        .args(words)
-        .output()
-        .expect("cargo builds the examples before the tests run")
+    let output = built::example(name).args(words).output();
+    output.expect("cargo builds the examples before the tests run")
 }
 
 fn said(output: &Output) -> &str {
@@ -54,14 +47,14 @@ fn orders_in_words() {
     let orders = "harbour.bin mark narrow 2 1 finish back 1 back 1 narrow 0 4 narrow 1 1 finish";
     let words: Vec<&str> = orders.split(' ').collect();
     let output = example("run", &words);
-    let lines = "0: Open, depth 0: 111 11 11\n\
-                 1: Open, depth 1: 111 11 11\n\
-                 2: Open, depth 1: 11 1 1\n\
+    let lines = "0: open, depth 0: 111 11 11\n\
+                 1: open, depth 1: 111 11 11\n\
+                 2: open, depth 1: 11 1 1\n\
                  3: found: 1 1 1\n\
-                 4: Open, depth 0: 111 11 11\n\
+                 4: open, depth 0: 111 11 11\n\
                  5: refusal 24: there is no such mark: 111 11 11\n\
-                 6: Decided, depth 0: 100 10 10\n\
-                 7: Dead, depth 0: 0 0 0\n\
+                 6: decided, depth 0: 100 10 10\n\
+                 7: dead, depth 0: 0 0 0\n\
                  8: no full set: 0 0 0\n";
     assert_eq!(said(&output), lines);
     assert_eq!(output.status.code(), Some(0));

@@ -2,6 +2,7 @@
 
 use conformance::{harbour, regular, write};
 use fitting::{check, Refusal};
+use std::collections::HashSet;
 use std::error::Error;
 
 #[test]
@@ -11,8 +12,8 @@ fn harbour_is_read_as_it_lies() {
     assert_eq!(book.bytes(), bytes);
     assert_eq!(book.columns(), 3);
     assert_eq!(
-        [book.values(0), book.values(1), book.values(2)],
-        [0..3, 0..2, 0..2]
+        [0, 1, 2].map(|column| book.values(column).mask()),
+        [7, 3, 3]
     );
     let columns: Vec<&[u8]> = book.sheets().map(|sheet| sheet.columns()).collect();
     assert_eq!(columns, [[0, 1], [1, 2]]);
@@ -27,8 +28,8 @@ fn harbour_is_read_as_it_lies() {
 fn what_is_not_there_is_not_found() {
     let bytes = write(&harbour());
     let book = check(&bytes).unwrap();
-    for column in [3, 15, 16, 499, 504, usize::MAX] {
-        assert_eq!(book.values(column), 0..0);
+    for column in [3, 15, 16, 128, 255] {
+        assert!(book.values(column).is_empty());
     }
     for number in [2, 7, 8, usize::MAX] {
         assert!(book.sheet(number).is_none());
@@ -53,6 +54,35 @@ fn sheets_and_rows_run_both_ways() {
         assert_eq!(Some(row), last.row(number));
         assert_eq!(row, backwards[507 - number]);
     }
+}
+
+#[test]
+fn every_count_of_values() {
+    for count in 1..=32 {
+        let bytes = write(&regular(1, count, 0, 0, 1));
+        let values = check(&bytes).unwrap().values(0);
+        assert!(values.iter().eq(0..count), "{count}");
+    }
+}
+
+#[test]
+fn sheets_are_equal_by_columns_and_rows() {
+    let harbour = write(&harbour());
+    let sheets: Vec<_> = check(&harbour).unwrap().sheets().collect();
+    assert_ne!(sheets[0], sheets[1]);
+    // The same sheet once more, where other blocks come after it and other checks stand in it.
+    let mut doubled = conformance::harbour();
+    doubled.sheets.insert(0, doubled.sheets[1].clone());
+    let bytes = write(&doubled);
+    let again: Vec<_> = check(&bytes).unwrap().sheets().collect();
+    assert_eq!(
+        [again[0], again[1], again[2]],
+        [sheets[1], sheets[0], sheets[1]]
+    );
+    assert_eq!(HashSet::from([again[0], sheets[1], sheets[0]]).len(), 2);
+    doubled.sheets[0].rows.pop();
+    let bytes = write(&doubled);
+    assert_ne!(check(&bytes).unwrap().sheet(0).unwrap(), sheets[1]);
 }
 
 #[test]
@@ -81,7 +111,7 @@ fn a_book_shows_itself_briefly() {
 
 #[test]
 fn a_refusal_is_an_error_of_any_host() {
-    fn load(bytes: &[u8]) -> Result<usize, Box<dyn Error + Send + Sync>> {
+    fn load(bytes: &[u8]) -> Result<u8, Box<dyn Error + Send + Sync>> {
         Ok(check(bytes)?.columns())
     }
     assert_eq!(load(&write(&harbour())).unwrap(), 3);

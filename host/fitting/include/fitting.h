@@ -1,0 +1,63 @@
+/* The fitting service for programs in C and C++: two calls, in libservice.a. */
+#ifndef FITTING_H
+#define FITTING_H
+
+#include <stddef.h>
+#include <stdint.h>
+
+#ifdef __cplusplus
+extern "C" {
+#endif
+
+/*
+ * A call gives one number: below 65536 the accepted figure, otherwise refusal * 65536 + place.
+ *
+ * It takes any bytes, as many at each pointer as the length after it says, and reads and writes no
+ * others. Give a pointer that isn't null even with length 0. Nothing is allocated and nothing kept, so
+ * threads may call as they like.
+ */
+
+/* Checks a book, and writes nothing. Accepted: columns * 16 + sheets. Refused: 1 to 5. */
+uint64_t fitting_check(const uint8_t *book, size_t book_len);
+
+/*
+ * Runs a list of orders over a book. Accepted: the number of accepted orders. Refused: as the book is,
+ * or 10 (the orders' length), or 11 (the answers' length; the place is the length needed).
+ *
+ * An order, at most FITTING_MOST_ORDERS of them:
+ *
+ *      byte 0   byte 1     2, 3   4 to 7
+ *     +-------+----------+------+-----------------+
+ *     | kind  | argument | zero | mask, low first |     1 narrow: column, mask of the values that may
+ *     +-------+----------+------+-----------------+       stay; 2 mark; 3 back: mark; 4 finish
+ *
+ * An answer; the first is the opening, then comes one for each order:
+ *
+ *      byte 0    1        2       3        4      5 to 7   8 to 71
+ *     +---------+--------+-------+--------+------+--------+------------------------------+
+ *     | refusal | status | depth | finish | done |  zero  | 16 domains of 4, low first   |
+ *     +---------+--------+-------+--------+------+--------+------------------------------+
+ *
+ * The refusal is 0 or 20 to 25; the status 0 dead, 1 open, 2 decided; the finish 0, or 1 found, 2 none.
+ * Bit v of a domain is set where value v is left. A refused run writes nothing, an accepted one only
+ * its answers. The answers must not overlap the book or the orders.
+ */
+uint64_t fitting_run(const uint8_t *book, size_t book_len, const uint8_t *orders, size_t orders_len,
+                     uint8_t *answers, size_t answers_len);
+
+/* Of a number: its refusal, 0 if it is an accepted figure, and the place. */
+#define FITTING_REFUSAL(number) ((uint64_t)(number) / 65536)
+#define FITTING_PLACE(number) ((uint64_t)(number) % 65536)
+
+/* The bytes that the answers to so many orders need. */
+#define FITTING_SPACE(orders) (72 * ((size_t)(orders) + 1))
+
+/* The most orders of a list, and the bytes of the longest book. */
+#define FITTING_MOST_ORDERS 256
+#define FITTING_LONGEST_BOOK 16896
+
+#ifdef __cplusplus
+}
+#endif
+
+#endif

@@ -4,17 +4,28 @@
 //! orders, finish on hard books, and whole runs; the last two with Gecode where it is installed. Both
 //! sides are code for plain x86-64, and all are called in turn, round by round.
 
+#[forbid(unsafe_code)]
 mod baseline;
+#[forbid(unsafe_code)]
 mod checks;
+#[forbid(unsafe_code)]
 mod engine;
+#[forbid(unsafe_code)]
 mod finishes;
 mod gecode;
+#[forbid(unsafe_code)]
 mod hard;
+#[forbid(unsafe_code)]
 mod lists;
+#[forbid(unsafe_code)]
 mod race;
+#[forbid(unsafe_code)]
 mod runs;
+#[forbid(unsafe_code)]
 mod sessions;
+#[forbid(unsafe_code)]
 mod subjects;
+#[forbid(unsafe_code)]
 mod table;
 
 fn main() {

@@ -5,6 +5,8 @@
 //! seeded book with a list of orders and a space for the answers; [`agreed_run`] compares the two
 //! runs of it. The tests of this crate are the comparison itself.
 
+#![forbid(unsafe_code)]
+
 mod books;
 mod case;
 mod compare;

@@ -4,6 +4,8 @@
 //! It is meant to be read beside that document: each piece stands under the sentence that it
 //! states. Where slow is plainer it is slow, and it shares nothing with any other crate.
 
+#![forbid(unsafe_code)]
+
 mod answers;
 mod book;
 mod closure;

@@ -29,6 +29,17 @@ pub fn tiny() -> Book {
     }
 }
 
+/// One column of two values, and one sheet of it with n rows of zero.
+pub fn one_sheet(n: usize) -> Book {
+    Book {
+        counts: vec![2],
+        sheets: vec![Sheet {
+            columns: vec![0],
+            rows: vec![vec![0]; n],
+        }],
+    }
+}
+
 /// A book all of whose columns and all of whose sheets are of one size; its rows are seeded.
 pub fn regular(columns: usize, values: u8, sheets: usize, rows: usize, width: usize) -> Book {
     let random = &mut Random::new(0);

@@ -12,6 +12,8 @@ mod case;
 mod compare;
 mod damage;
 mod orders;
+mod papers;
+mod program;
 mod random;
 mod region;
 mod run;
@@ -20,11 +22,13 @@ mod steps;
 mod tally;
 mod write;
 
-pub use books::{any_book, harbour, plant, regular, tiny, BLOCK_EDGES};
+pub use books::{any_book, harbour, one_sheet, plant, regular, tiny, BLOCK_EDGES};
 pub use case::{Case, Hit, Mend, Story};
 pub use compare::agreed_run;
 pub use damage::Damage;
 pub use orders::{all_values, any_list, back, example_orders, narrow, FINISH, MARK};
+pub use papers::{described, differ, mask, walk_through};
+pub use program::{program, Folder};
 pub use random::Random;
 pub use reference::{Book, Order, Sheet};
 pub use region::Region;
@@ -32,7 +36,7 @@ pub use run::{space_for, Run, Shape};
 pub use seen::Seen;
 pub use steps::Steps;
 pub use tally::{Outcomes, Places};
-pub use write::{mend, write, BLOCK, LONGEST, ROWS_OF_A_BLOCK};
+pub use write::{changed, mend, write, BLOCK, LONGEST, ROWS_OF_A_BLOCK};
 
 /// The number that the library and the reference both give; they must give the same.
 pub fn agreed(book: &[u8]) -> u64 {

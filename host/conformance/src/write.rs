@@ -59,3 +59,13 @@ pub fn mend(bytes: &mut [u8]) {
         check.copy_from_slice(&sum.to_le_bytes());
     }
 }
+
+/// The bytes of a book with some of them changed, and every check mended.
+pub fn changed(book: &Book, changes: &[(usize, u8)]) -> Vec<u8> {
+    let mut bytes = write(book);
+    for &(at, value) in changes {
+        bytes[at] = value;
+    }
+    mend(&mut bytes);
+    bytes
+}

@@ -1,8 +1,8 @@
 //! The papers' own examples as whole runs: K1 to K10, the printed run, and document 002's table.
 
 use conformance::{
-    agreed_run, back, example_orders, harbour, narrow, space_for, write, Book, Order, Seen, Sheet,
-    FINISH, MARK,
+    agreed_run, back, described, differ, example_orders, harbour, mask, narrow, space_for,
+    walk_through, write, Book, Order, Seen, FINISH, MARK,
 };
 
 const WIDTH: u8 = 0;
@@ -37,17 +37,6 @@ fn shows(status: u8, done: u8, domains: &[u32]) -> Seen {
     }
 }
 
-fn book(counts: &[u8], sheets: &[(&[u8], &[&[u8]])]) -> Book {
-    let sheet = |&(columns, rows): &(&[u8], &[&[u8]])| Sheet {
-        columns: columns.to_vec(),
-        rows: rows.iter().map(|row| row.to_vec()).collect(),
-    };
-    Book {
-        counts: counts.to_vec(),
-        sheets: sheets.iter().map(sheet).collect(),
-    }
-}
-
 #[test]
 fn k1_to_k5_on_harbour() {
     let opening = shows(1, 0, &[7, 3, 3]);
@@ -79,17 +68,12 @@ fn k6_finish_at_opening() {
 
 #[test]
 fn k7_three_columns_that_differ() {
-    let rows: &[&[u8]] = &[&[0, 1], &[1, 0]];
-    let differ = book(
-        &[2; 3],
-        &[(&[0, 1], rows), (&[0, 2], rows), (&[1, 2], rows)],
-    );
     let opening = shows(1, 0, &[3, 3, 3]);
     let none = Seen {
         outcome: 2,
         ..shows(1, 0, &[])
     };
-    assert_eq!(answers(&differ, &[FINISH]), [opening, none]);
+    assert_eq!(answers(&differ(), &[FINISH]), [opening, none]);
 }
 
 #[test]
@@ -99,9 +83,9 @@ fn k8_a_sheet_without_rows() {
         ..shows(0, 0, &[])
     };
     for dead in [
-        book(&[2], &[(&[0], &[])]),
-        book(&[32, 1], &[(&[1], &[])]),
-        book(&[2, 2], &[(&[0], &[&[1]]), (&[0, 1], &[])]),
+        described(&[2], &[(&[0], &[])]),
+        described(&[32, 1], &[(&[1], &[])]),
+        described(&[2, 2], &[(&[0], &[&[1]]), (&[0, 1], &[])]),
     ] {
         assert_eq!(answers(&dead, &[FINISH]), [shows(0, 0, &[]), none]);
     }
@@ -109,7 +93,7 @@ fn k8_a_sheet_without_rows() {
 
 #[test]
 fn k9_no_sheets() {
-    let free = book(&[1, 2, 31, 32], &[]);
+    let free = described(&[1, 2, 31, 32], &[]);
     let opening = shows(1, 0, &[1, 3, 0x7FFF_FFFF, !0]);
     let found = Seen {
         outcome: 1,
@@ -117,7 +101,10 @@ fn k9_no_sheets() {
     };
     assert_eq!(answers(&free, &[FINISH]), [opening, found]);
     // One value in each column is decided, with no sheet to say so.
-    assert_eq!(answers(&book(&[1, 1], &[]), &[]), [shows(2, 0, &[1, 1])]);
+    assert_eq!(
+        answers(&described(&[1, 1], &[]), &[]),
+        [shows(2, 0, &[1, 1])]
+    );
 }
 
 #[test]
@@ -155,44 +142,6 @@ fn the_printed_run() {
     let (number, answers) = run(&harbour(), &example_orders());
     assert_eq!(number, 5);
     assert_eq!(answers, expected);
-}
-
-/// The 15 tuples of document 002's walk-through; its values are 0 to 9.
-const TUPLES: [[u8; 3]; 15] = [
-    [1, 5, 8],
-    [2, 1, 4],
-    [1, 3, 2],
-    [2, 4, 2],
-    [6, 5, 9],
-    [7, 7, 8],
-    [4, 2, 1],
-    [1, 1, 1],
-    [7, 8, 9],
-    [8, 9, 6],
-    [2, 2, 3],
-    [0, 0, 0],
-    [2, 3, 1],
-    [5, 8, 5],
-    [4, 3, 1],
-];
-
-/// The mask of these values.
-fn mask(values: &[u32]) -> u32 {
-    values.iter().map(|value| 1 << value).sum()
-}
-
-/// The table of document 002's walk-through, and its four narrows.
-fn walk_through() -> (Book, [Order; 4]) {
-    let rows: Vec<&[u8]> = TUPLES.iter().map(|tuple| &tuple[..]).collect();
-    let table = book(&[10; 3], &[(&[0, 1, 2], &rows)]);
-    let domain = mask(&[1, 2, 3, 4]);
-    let narrows = [
-        narrow(0, domain),
-        narrow(1, domain),
-        narrow(2, domain),
-        narrow(1, mask(&[3, 4])),
-    ];
-    (table, narrows)
 }
 
 /// Every domain becomes {1, 2, 3, 4}: 8 tuples are left, and none has 3 for x0. Then x1 loses 1 and 2:

@@ -1,8 +1,8 @@
 //! Lengths: of the list, of the space for the answers, and what is refused first.
 
 use conformance::{
-    agreed_run, back, harbour, narrow, refused, regular, space_for, tiny, write, Order, Seen,
-    FINISH, MARK,
+    agreed_run, back, changed, harbour, narrow, refused, regular, space_for, tiny, write, Order,
+    Seen, FINISH, MARK,
 };
 
 const BOARD: u8 = 2;
@@ -144,19 +144,13 @@ fn what_is_refused_first() {
 fn refused_books() {
     let mut long = write(&regular(16, 32, 8, 508, 4));
     long.extend([0; 512]);
-    let changed = |at: usize, value: u8| {
-        let mut bytes = write(&harbour());
-        bytes[at] = value;
-        conformance::mend(&mut bytes);
-        bytes
-    };
     for (book, expected) in [
         (vec![0; 511], refused(1, 0)),
         (long, refused(1, 0)),
         (vec![0; 512], refused(2, 0)),
-        (changed(4, 17), refused(3, 4)),
+        (changed(&harbour(), &[(4, 17)]), refused(3, 4)),
         (write(&harbour())[..512].to_vec(), refused(4, 3)),
-        (changed(1_024, 2), refused(5, 2)),
+        (changed(&harbour(), &[(1_024, 2)]), refused(5, 2)),
     ] {
         assert_eq!(number(&book, &MARK, 144), expected);
     }

@@ -3,7 +3,8 @@
 //! [`write()`] turns a described [`Book`] into bytes with right checks; [`Region`] and [`Damage`]
 //! spoil them; [`Case`] is one seeded input; [`agreed`] compares the two answers. [`Run`] is a
 //! seeded book with a list of orders and a space for the answers; [`agreed_run`] compares the two
-//! runs of it. The tests of this crate are the comparison itself.
+//! runs of it. The tests of this crate are the comparison itself. [`kit`] is the conformance kit for other
+//! people's software, and [`standin`] wrong software to try the kit on.
 
 #![forbid(unsafe_code)]
 
@@ -11,6 +12,7 @@ mod books;
 mod case;
 mod compare;
 mod damage;
+pub mod kit;
 mod orders;
 mod papers;
 mod program;
@@ -18,6 +20,7 @@ mod random;
 mod region;
 mod run;
 mod seen;
+pub mod standin;
 mod steps;
 mod tally;
 mod write;
@@ -59,8 +62,11 @@ pub fn refused(refusal: u64, place: usize) -> u64 {
 
 /// A number as words, for messages.
 pub fn spelled(number: u64) -> String {
-    match fitting::Refusal::from_number(number) {
-        None => format!("accepted {number}"),
-        Some(refusal) => format!("refusal {} place {}", refusal.number(), refusal.place()),
-    }
+    spelled_refusal(number).unwrap_or_else(|| format!("accepted {number}"))
+}
+
+/// The words of a number that is a refusal.
+pub(crate) fn spelled_refusal(number: u64) -> Option<String> {
+    let (refusal, place) = (number / 65_536, number % 65_536);
+    (refusal > 0).then(|| format!("refusal {refusal}, place {place}"))
 }

@@ -100,14 +100,14 @@ Held settled(Held session) { return session && session->status() != SS_FAILED ? 
 
 Held copied(const Held &session) { return Held(session ? static_cast<Session *>(session->clone()) : nullptr); }
 
-Held first_solution(const Held &session) {
+// Of so many choices one keeps a copy; the others are computed again.
+Held first_solution(const Held &session, unsigned distance) {
     if (!session) {
         return nullptr;
     }
     Search::Options options;
     options.threads = 1;
-    // A copy at every choice: faster here than to recompute, which is the default.
-    options.c_d = 1;
+    options.c_d = distance;
     DFS<Session> search(session.get(), options);
     return Held(search.next());
 }
@@ -124,6 +124,10 @@ void show(const Held &session, uint32_t *domains) {
 } // namespace
 
 extern "C" {
+
+uint32_t gecode_version() { return GECODE_VERSION_NUMBER; }
+
+uint32_t gecode_distance() { return Search::Config::c_d; }
 
 void *gecode_tables(const uint8_t *book) {
     auto tables = new Tables;
@@ -146,12 +150,12 @@ void *gecode_opening(const void *tables) {
 void gecode_free_opening(void *opening) { delete static_cast<Held *>(opening); }
 
 // The domains are 16, or null where nobody asks.
-void gecode_finish(const void *opening, uint32_t *domains) {
-    show(first_solution(*static_cast<const Held *>(opening)), domains);
+void gecode_finish(const void *opening, uint32_t distance, uint32_t *domains) {
+    show(first_solution(*static_cast<const Held *>(opening), distance), domains);
 }
 
 // Orders of 8 bytes. The domains are 16 for the opening and 16 for each order, or null.
-void gecode_run(const void *tables, const uint8_t *orders, size_t count, uint32_t *domains) {
+void gecode_run(const void *tables, uint32_t distance, const uint8_t *orders, size_t count, uint32_t *domains) {
     Held now = settled(Held(new Session(*static_cast<const Tables *>(tables))));
     std::vector<Held> marks;
     show(now, domains);
@@ -170,7 +174,7 @@ void gecode_run(const void *tables, const uint8_t *orders, size_t count, uint32_
             marks.resize(order[1] - 1);
         }
         if (order[0] == 4) {
-            show(first_solution(now), shown);
+            show(first_solution(now, distance), shown);
         } else {
             show(now, shown);
         }

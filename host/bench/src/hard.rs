@@ -1,6 +1,7 @@
 //! Books whose finish takes thousands of tries.
 
 use crate::engine;
+use crate::measurement::Kind;
 use conformance::{write, Book, Random, Sheet};
 
 /// What a book must take to be hard.
@@ -8,45 +9,47 @@ const TRIES: u64 = 2_500;
 
 pub struct Hard {
     pub name: String,
-    pub book: Vec<u8>,
-    /// Whether there is a full set.
-    pub found: bool,
-    pub tries: u64,
+    pub book: Book,
+    /// What is timed on it.
+    pub kinds: &'static [Kind],
 }
 
+impl Hard {
+    fn new(name: String, book: Book) -> Self {
+        Self {
+            name,
+            book,
+            kinds: &[Kind::Finish],
+        }
+    }
+
+    fn in_everything(self) -> Self {
+        Self {
+            kinds: &Kind::ALL,
+            ..self
+        }
+    }
+}
+
+/// All take a finish; one without a full set and one with it take everything.
 pub fn books() -> Vec<Hard> {
     // The edges of a tetrahedron and of a cube.
     let tetrahedron = [[0, 1], [0, 2], [0, 3], [1, 2], [1, 3], [2, 3]];
     let corners = || 0..8_usize;
     let next = |corner| [1, 2, 4].map(move |step| [corner, corner | step]);
     let cube: Vec<[usize; 2]> = corners().flat_map(next).filter(|[a, b]| a < b).collect();
+    let parity = |corners, edges: &[[usize; 2]], values| {
+        let name = format!("hard, none: parity, {} columns", edges.len());
+        Hard::new(name, parity(corners, edges, values))
+    };
     vec![
-        hard("parity", parity(4, &tetrahedron, 10)),
-        hard("parity", parity(8, &cube, 4)),
+        parity(4, &tetrahedron, 10),
+        parity(8, &cube, 4).in_everything(),
         random(18, 320, false),
-        random(18, 340, true),
+        random(18, 340, true).in_everything(),
         random(23, 508, false),
         random(23, 508, true),
     ]
-}
-
-fn hard(kind: &str, book: Book) -> Hard {
-    let columns = book.counts.len();
-    let values = book.counts[0];
-    let sheets = book.sheets.len();
-    let sheet = &book.sheets[0];
-    let (rows, width) = (sheet.rows.len(), sheet.columns.len());
-    let book = write(&book);
-    let (tries, found) = engine::tries(&book);
-    let name = format!(
-        "{kind}, {columns} columns of {values}, {sheets} sheets of {rows} rows, width {width}"
-    );
-    Hard {
-        name,
-        book,
-        found,
-        tries,
-    }
 }
 
 /// A graph: each edge is a column, and each corner a sheet, whose rows have an even sum. Only the
@@ -76,10 +79,16 @@ fn parity(corners: usize, edges: &[[usize; 2]], values: u8) -> Book {
 /// The first seed that gives a hard book of 16 columns and 8 sheets of width 4, with or without a
 /// full set. So many rows leave about one by chance.
 fn random(values: u8, rows: usize, found: bool) -> Hard {
-    (0..)
-        .map(|seed| hard("random", seeded(&mut Random::new(seed), values, rows)))
-        .find(|hard| hard.found == found && hard.tries >= TRIES)
-        .expect("a seed")
+    let hard = |book: &Book| {
+        let (tries, has) = engine::tries(&write(book));
+        has == found && tries >= TRIES
+    };
+    let book = (0..)
+        .map(|seed| seeded(&mut Random::new(seed), values, rows))
+        .find(hard)
+        .expect("a seed");
+    let outcome = if found { "found" } else { "none" };
+    Hard::new(format!("hard, {outcome}: random, {rows} rows"), book)
 }
 
 /// Every column stands in two sheets, so that none is tried over and over without effect.

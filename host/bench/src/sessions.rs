@@ -1,70 +1,78 @@
-//! Openings and orders: the library against the hand-written engines.
+//! Openings and single orders. There is no call for one alone, so each is what it adds to a run.
 
-use crate::race::{race, Job};
-use crate::runs::{agreed, call, RUNS};
-use crate::subjects::{subjects, Subject, TURNS};
-use crate::table::{heads, three, Time};
-use conformance::Run;
+use crate::contest::{Contender, Contest};
+use crate::gecode::Distance;
+use crate::measurement::Opponent;
+use crate::ready::{with_both, Ready};
+use crate::runs::{call, Run};
+use crate::subjects::{Subject, TURNS};
+use conformance::FINISH;
 
-const AGREEMENTS: u64 = 10_000;
+type Gecode<'a> = Option<&'a Ready<'a>>;
 
-/// Prints three rows for each book.
-pub fn table() {
-    let subjects = subjects();
-    agree(&subjects);
-    println!("| book | what | {} |", heads("ns"));
-    println!("|---|---|---:|---:|---:|---:|---:|---:|");
-    for subject in &subjects {
-        rows(subject);
-    }
-}
-
-fn rows(subject: &Subject) {
-    let book = &subject.book;
-    let mut jobs: Vec<Job> = Vec::new();
-    for run in RUNS {
-        // Orders of one byte are refused as soon as the book has been checked.
-        jobs.push(Box::new(move || call(run, book, &[0])));
-        jobs.push(Box::new(move || call(run, book, &[])));
-        jobs.push(Box::new(move || {
-            for order in &subject.narrows {
-                call(run, book, order);
-            }
-        }));
-        jobs.push(Box::new(move || call(run, book, &subject.to_and_fro)));
-    }
-    let times = race(&jobs);
-    // What each of so many parts adds to so many calls of another job.
-    let row = |what: &str, whole: usize, calls: f64, without: usize, parts: f64| {
-        let of = |run: usize| Time::added(&times[run + whole], calls, &times[run + without], parts);
-        let figures = three([0, 4, 8].map(of), |nanos| format!("{nanos:.0}"));
-        println!("| {} | {what} | {figures} |", subject.name);
+/// A run of no orders, less one of a single byte: that is refused as soon as the book has been
+/// checked.
+pub fn opening<'a>(book: &'a [u8], gecode: Gecode<'a>) -> Contest<'a> {
+    let opened = |run: Run| {
+        Contender::doing(move || call(run, book, &[])).less(move || call(run, book, &[0]))
     };
-    let narrows = subject.narrows.len() as f64;
-    row("opening", 1, 1.0, 0, 1.0);
-    row("narrow", 2, narrows, 1, narrows);
-    row("mark, narrow, back", 3, 1.0, 1, TURNS as f64);
+    Contest::of_runs(opened)
+        .against(
+            Opponent::Gecode,
+            gecode.map(|it| Contender::doing(|| it.run_simply(&[]))),
+        )
+        .against(
+            Opponent::GecodeWithTables,
+            gecode.map(|it| Contender::doing(|| it.run_with_tables(&[], Distance::LEAST))),
+        )
 }
 
-/// All must show the same before their times say anything.
-fn agree(subjects: &[Subject]) {
-    for subject in subjects {
-        let (_, opening) = agreed(&subject.book, &[]);
-        for order in &subject.narrows {
-            let (accepted, answers) = agreed(&subject.book, order);
-            assert!(accepted == 1 && answers[1][1] != 0, "{}", subject.name);
-        }
-        let (accepted, answers) = agreed(&subject.book, &subject.to_and_fro);
-        assert_eq!(accepted, 3 * TURNS as u64);
-        assert_eq!(answers.last(), opening.last());
-    }
-    for seed in 0..AGREEMENTS {
-        let Run { book, orders, .. } = Run::new(seed);
-        agreed(&book, &orders);
-    }
-    println!(
-        "\nLibrary and engines agree on these lists and on {AGREEMENTS} seeded ones. The hand-written \
-         engine is there twice: with its valid rows in words, as the scope paper and the library \
-         have them, and with them packed into lists.\n"
-    );
+/// A run of one narrow, less one of no orders: the mean of the book's narrows.
+pub fn narrow<'a>(subject: &'a Subject, gecode: Gecode<'a>) -> Contest<'a> {
+    let narrows = &subject.narrows;
+    let narrowed = |run: Run| {
+        let whole = move || {
+            narrows
+                .iter()
+                .for_each(|order| call(run, &subject.book, order))
+        };
+        Contender::doing(whole).less(opened(run, subject))
+    };
+    let gecode = gecode.map(|it| {
+        let whole = || narrows.chunks(1).for_each(|order| it.run_simply(order));
+        Contender::doing(whole).less(|| it.run_simply(&[]))
+    });
+    Contest::of_runs(narrowed)
+        .against(Opponent::Gecode, gecode)
+        .split(narrows.len(), narrows.len())
+}
+
+/// A run of mark, narrow and back over and over, less one of no orders.
+pub fn to_and_fro<'a>(subject: &'a Subject, gecode: Gecode<'a>) -> Contest<'a> {
+    added(subject, subject.to_and_fro.as_flattened())
+        .against(
+            Opponent::Gecode,
+            gecode.map(|it| {
+                Contender::doing(|| it.run_simply(&subject.to_and_fro)).less(|| it.run_simply(&[]))
+            }),
+        )
+        .split(1, TURNS)
+}
+
+/// A run of one finish, less one of no orders. Gecode starts at the opening, its model built and
+/// settled.
+pub fn finish<'a>(subject: &'a Subject, gecode: Gecode<'a>) -> Contest<'a> {
+    let gecode = with_both(gecode, |it, distance| move || it.finish(distance));
+    added(subject, &FINISH).against(Opponent::Gecode, gecode)
+}
+
+/// What these orders add to the opening.
+fn added<'a>(subject: &'a Subject, orders: &'a [u8]) -> Contest<'a> {
+    Contest::of_runs(|run| {
+        Contender::doing(move || call(run, &subject.book, orders)).less(opened(run, subject))
+    })
+}
+
+fn opened(run: Run, subject: &Subject) -> impl Fn() + '_ {
+    move || call(run, &subject.book, &[])
 }

@@ -1,0 +1,191 @@
+//! A fuzzer's bytes as a book, a list of orders and a space. Any bytes are an input: what is missing
+//! at the end reads as zeros.
+//!
+//! ```text
+//!    0      1      2    3     4
+//!  +------+------+----+-----+-----------------+------------+----------------+
+//!  | form | room | list's   | damage, 3 bytes | the list   | the book, to   |
+//!  |      |      | length   | each            | of orders  | the end        |
+//!  +------+------+----+-----+-----------------+------------+----------------+
+//!
+//!  form  bit 0     the book is described (below), else its bytes stand there
+//!        bit 1     the checks are made right after the damage
+//!        bits 2,3  how much damage: a place (2 bytes) and what its byte is changed by, exclusive or
+//!        bits 4,5  the space: 0, 1 as long as needed; 2 shorter, 3 longer, by `room`
+//!        bit 6     a book whose bytes stand there is filled up with zeros to whole blocks
+//!        bit 7     the list is repeated up to 254 to 257 orders, by `room`
+//!
+//!  a described book (its orders' kinds are brought to 0 to 5 too)
+//!  +---+---+--------+  then for each of the S sheets
+//!  | C | S | V of C |  +-------+------------+------+------+----------------------+
+//!  +---+---+--------+  | width | columns, a | rows | seed | rows, k bytes each,  |
+//!   each brought into  |       | 16-bit set | n    |      | if the seed is 0     |
+//!   its range by mod   +-------+------------+------+------+----------------------+
+//! ```
+
+use crate::put_aside_long_finishes;
+use conformance::{mend, space_for, write, Book, Random, Sheet, BLOCK};
+
+/// The longest input that a fuzz run makes.
+pub const LONGEST_INPUT: usize = 4_096;
+/// Form: the book is described.
+pub const DESCRIBED: u8 = 1;
+/// Form: the checks are made right.
+pub const MENDED: u8 = 2;
+
+const WHOLE_BLOCKS: u8 = 1 << 6;
+const REPEATED: u8 = 1 << 7;
+
+/// What both versions are given.
+#[derive(Clone, Debug, PartialEq, Eq)]
+pub struct Input {
+    /// The bytes of the book.
+    pub book: Vec<u8>,
+    /// The bytes of the orders.
+    pub orders: Vec<u8>,
+    /// The bytes of the space for the answers.
+    pub space: usize,
+    /// Finishes that were put aside because their search is long.
+    pub aside: usize,
+}
+
+impl Input {
+    /// The input that these bytes stand for.
+    pub fn read(bytes: &[u8]) -> Self {
+        let mut rest = Rest(bytes);
+        let [form, room] = [rest.byte(), rest.byte()];
+        let length = rest.number();
+        let damage: Vec<_> = (0..form >> 2 & 3)
+            .map(|_| (rest.number(), rest.byte()))
+            .collect();
+        let mut orders = rest.take(length).to_vec();
+        if form & DESCRIBED != 0 {
+            orders.iter_mut().step_by(8).for_each(|kind| *kind %= 6);
+        }
+        if form & REPEATED != 0 && !orders.is_empty() {
+            let most = 8 * (254 + usize::from(room % 4));
+            orders = orders.into_iter().cycle().take(most).collect();
+        }
+        let mut book = if form & DESCRIBED != 0 {
+            write(&rest.book())
+        } else {
+            rest.0.to_vec()
+        };
+        if form & WHOLE_BLOCKS != 0 {
+            book.resize(book.len().next_multiple_of(BLOCK), 0);
+        }
+        spoil(&mut book, &damage);
+        if form & MENDED != 0 {
+            mend(&mut book);
+        }
+        let aside = put_aside_long_finishes(&book, &mut orders);
+        let space = space(form, room, space_for(&orders));
+        Self {
+            book,
+            orders,
+            space,
+            aside,
+        }
+    }
+}
+
+/// Changes the bytes at these places, counted around the book's end.
+fn spoil(book: &mut [u8], damage: &[(usize, u8)]) {
+    let length = book.len();
+    for &(place, change) in damage {
+        if length > 0 {
+            book[place % length] ^= change;
+        }
+    }
+}
+
+fn space(form: u8, room: u8, needed: usize) -> usize {
+    let by = usize::from(room) + 1;
+    match form >> 4 & 3 {
+        2 => needed.saturating_sub(by),
+        3 => needed + by,
+        _ => needed,
+    }
+}
+
+/// The bytes that are not yet read.
+struct Rest<'a>(&'a [u8]);
+
+impl<'a> Rest<'a> {
+    fn take(&mut self, length: usize) -> &'a [u8] {
+        let (taken, left) = self.0.split_at(length.min(self.0.len()));
+        self.0 = left;
+        taken
+    }
+
+    fn byte(&mut self) -> u8 {
+        self.take(1).first().copied().unwrap_or(0)
+    }
+
+    fn number(&mut self) -> usize {
+        usize::from(u16::from_le_bytes([self.byte(), self.byte()]))
+    }
+
+    fn book(&mut self) -> Book {
+        let columns = 1 + self.byte() % 16;
+        let sheets = self.byte() % 9;
+        let counts: Vec<u8> = (0..columns).map(|_| 1 + self.byte() % 32).collect();
+        let sheets = (0..sheets).map(|_| self.sheet(&counts)).collect();
+        Book { counts, sheets }
+    }
+
+    fn sheet(&mut self, counts: &[u8]) -> Sheet {
+        let width = (1 + usize::from(self.byte() % 4)).min(counts.len());
+        let columns = columns(self.number(), counts.len(), width);
+        let rows = self.number() % 509;
+        let seed = self.byte();
+        let random = &mut Random::new(seed.into());
+        let mut value = |column: &u8| {
+            let byte = if seed == 0 {
+                self.byte()
+            } else {
+                random.byte()
+            };
+            byte % counts[usize::from(*column)]
+        };
+        let rows = (0..rows)
+            .map(|_| columns.iter().map(&mut value).collect())
+            .collect();
+        Sheet { columns, rows }
+    }
+}
+
+/// So many columns in rising order: those of the set first, then the lowest others.
+fn columns(set: usize, all: usize, width: usize) -> Vec<u8> {
+    let (within, others): (Vec<u8>, Vec<u8>) =
+        (0..all as u8).partition(|column| set >> column & 1 == 1);
+    let mut columns: Vec<u8> = within.into_iter().chain(others).take(width).collect();
+    columns.sort_unstable();
+    columns
+}
+
+/// The bytes of an input whose book stands there as it is, with an exact space.
+pub fn raw(form: u8, book: &[u8], orders: &[u8]) -> Vec<u8> {
+    front(form & !DESCRIBED, orders, book)
+}
+
+/// The bytes of an input that describes this book, with an exact space.
+pub fn described(book: &Book, orders: &[u8]) -> Vec<u8> {
+    let mut bytes = vec![book.counts.len() as u8 - 1, book.sheets.len() as u8];
+    bytes.extend(book.counts.iter().map(|count| count - 1));
+    for sheet in &book.sheets {
+        let set: u16 = sheet.columns.iter().map(|column| 1 << column).sum();
+        bytes.push(sheet.columns.len() as u8 - 1);
+        bytes.extend(set.to_le_bytes());
+        bytes.extend((sheet.rows.len() as u16).to_le_bytes());
+        bytes.push(0);
+        bytes.extend(sheet.rows.iter().flatten());
+    }
+    front(DESCRIBED, orders, &bytes)
+}
+
+fn front(form: u8, orders: &[u8], book: &[u8]) -> Vec<u8> {
+    let length = u16::try_from(orders.len()).unwrap_or(u16::MAX);
+    let [low, high] = length.to_le_bytes();
+    [&[form, 0, low, high], orders, book].concat()
+}

@@ -1,0 +1,146 @@
+//! Any bytes are an input, and the inputs that come of them are of every kind.
+
+use conformance::{example_orders, harbour, regular, space_for, write, Random, FINISH};
+use fuzz::{
+    described, put_aside_long_finishes, raw, seeds, try_bytes, Counts, Input, ASIDE, DESCRIBED,
+    LONGEST_INPUT, MENDED,
+};
+
+/// Bytes from chance, most often short.
+fn any_bytes(random: &mut Random) -> Vec<u8> {
+    let most = random.pick(&[0, 8, 64, 600, LONGEST_INPUT]);
+    let mut bytes = vec![0; random.within(0..=most)];
+    random.fill(&mut bytes);
+    bytes
+}
+
+/// A first input with a few bytes changed, as a fuzzer does it.
+fn changed(random: &mut Random, seeds: &[Vec<u8>]) -> Vec<u8> {
+    let mut bytes = seeds[random.below(seeds.len())].clone();
+    for _ in 0..random.within(0..=4) {
+        let near_front = random.once_in(2);
+        let at = random.below(if near_front { 4 } else { bytes.len() });
+        bytes[at] = random.byte();
+    }
+    bytes
+}
+
+#[test]
+fn any_bytes_are_an_input() {
+    let random = &mut Random::new(1);
+    for _ in 0..20_000 {
+        let bytes = any_bytes(random);
+        let input = Input::read(&bytes);
+        assert_eq!(input, Input::read(&bytes));
+        assert!(input.book.len() <= LONGEST_INPUT.max(33 * 512));
+        assert!(input.orders.len() <= LONGEST_INPUT);
+        assert!(input.space <= space_for(&input.orders) + 256);
+    }
+    assert_eq!(Input::read(&[]).book, []);
+}
+
+#[test]
+fn every_byte_of_the_front_may_be_anything() {
+    let whole = described(&harbour(), &example_orders().concat());
+    for at in 0..12 {
+        for value in 0..=255 {
+            let mut bytes = whole.clone();
+            bytes[at] = value;
+            Input::read(&bytes);
+            Input::read(&bytes[..at]);
+        }
+    }
+}
+
+/// What the first inputs are made of comes out of them again.
+#[test]
+fn books_and_orders_are_read_as_written() {
+    let orders = example_orders().concat();
+    for book in [harbour(), regular(16, 32, 8, 9, 4), regular(1, 1, 0, 0, 1)] {
+        let bytes = write(&book);
+        let mut spoilt = bytes.clone();
+        spoilt[508] ^= 1;
+        for (input, expected) in [
+            (described(&book, &orders), &bytes),
+            (raw(0, &bytes, &orders), &bytes),
+            (raw(MENDED, &spoilt, &orders), &bytes),
+            (raw(0, &spoilt, &orders), &spoilt),
+        ] {
+            let input = Input::read(&input);
+            assert_eq!(input.book, *expected);
+            assert_eq!(input.orders, orders);
+            assert_eq!(input.space, space_for(&orders));
+        }
+    }
+}
+
+/// The space is exact, one too short and more, or longer, as the form and the room say.
+#[test]
+fn every_length_of_a_space() {
+    for (form, room, expected) in [
+        (0 << 4, 9, 72),
+        (1 << 4, 9, 72),
+        (2 << 4, 0, 71),
+        (2 << 4, 255, 0),
+        (3 << 4, 0, 73),
+        (3 << 4, 255, 328),
+    ] {
+        let input = Input::read(&[DESCRIBED | form, room]);
+        assert_eq!(input.space, expected);
+    }
+}
+
+/// Each finish of document 01's list is kept; one that goes through 32 values of 16 columns isn't.
+#[test]
+fn long_finishes_are_put_aside() {
+    let mut orders = example_orders().concat();
+    assert_eq!(put_aside_long_finishes(&write(&harbour()), &mut orders), 0);
+    assert_eq!(orders, example_orders().concat());
+    // The two sheets have no row in common, but each value has a row in both: it shows only where
+    // column 14 is set, so the search goes through all values of the fourteen columns before.
+    let mut book = regular(16, 32, 2, 32, 2);
+    for (sheet, by) in book.sheets.iter_mut().zip(0..) {
+        sheet.columns = vec![14, 15];
+        sheet.rows = (0..32)
+            .map(|value| vec![value, (value + by) % 32])
+            .collect();
+    }
+    let mut orders = FINISH.repeat(3);
+    assert_eq!(put_aside_long_finishes(&write(&book), &mut orders), 3);
+    assert_eq!(orders, ASIDE.repeat(3));
+}
+
+/// A few thousand inputs agree, and each kind of answer is among them.
+#[test]
+fn seeded_inputs_agree_and_are_of_every_kind() {
+    let (random, seeds) = (&mut Random::new(2), seeds(300));
+    let mut counts = Counts::default();
+    for seed in &seeds {
+        try_bytes(seed, &mut counts);
+    }
+    for _ in 0..5_000 {
+        try_bytes(&changed(random, &seeds), &mut counts);
+        try_bytes(&any_bytes(random), &mut counts);
+    }
+    println!("{counts}");
+    assert_eq!(counts.inputs, seeds.len() + 10_000);
+    for refusal in 0..6 {
+        assert!(counts.books[refusal] > 20, "book, refusal {refusal}");
+    }
+    for refusal in [10, 11] {
+        assert!(counts.runs[refusal] > 20, "run, refusal {refusal}");
+    }
+    assert!(counts.runs[0] > 1_000, "accepted runs");
+    for (kind, refusals) in [
+        (0, &[20][..]),
+        (1, &[0, 21, 22, 25]),
+        (2, &[0, 23, 25]),
+        (3, &[0, 24, 25]),
+        (4, &[0, 25]),
+    ] {
+        for &refusal in refusals {
+            let count = counts.steps.count(kind, refusal);
+            assert!(count > 100, "kind {kind}, refusal {refusal}: {count}");
+        }
+    }
+}

@@ -9,7 +9,7 @@ use reference::closure;
 pub const ASIDE: [u8; 8] = [5, 0, 0, 0, 0, 0, 0, 0];
 
 /// The rows that the searches of one list may look at, each time they settle.
-const ROWS_OF_A_LIST: usize = 1 << 18;
+const ROWS_OF_A_LIST: usize = 1 << 15;
 
 /// Puts finishes aside from the first on whose search doesn't end within the rows that a list may
 /// look at; gives how many. A list that isn't run stays as it is.

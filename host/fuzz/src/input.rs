@@ -13,7 +13,7 @@
 //!        bits 2,3  how much damage: a place (2 bytes) and what its byte is changed by, exclusive or
 //!        bits 4,5  the space: 0, 1 as long as needed; 2 shorter, 3 longer, by `room`
 //!        bit 6     a book whose bytes stand there is filled up with zeros to whole blocks
-//!        bit 7     the list is repeated up to 254 to 257 orders, by `room`
+//!        bit 7     with a `room` below 16, the list is repeated up to 254 to 257 orders
 //!
 //!  a described book (its orders' kinds are brought to 0 to 5 too)
 //!  +---+---+--------+  then for each of the S sheets
@@ -62,7 +62,7 @@ impl Input {
         if form & DESCRIBED != 0 {
             orders.iter_mut().step_by(8).for_each(|kind| *kind %= 6);
         }
-        if form & REPEATED != 0 && !orders.is_empty() {
+        if form & REPEATED != 0 && room < 16 && !orders.is_empty() {
             let most = 8 * (254 + usize::from(room % 4));
             orders = orders.into_iter().cycle().take(most).collect();
         }

@@ -74,6 +74,17 @@ fn books_and_orders_are_read_as_written() {
     }
 }
 
+/// "256 orders run, 257 give 10": a short input can have a list as long as that.
+#[test]
+fn the_longest_lists() {
+    for (room, orders) in [(0, 254), (3, 257), (6, 256), (16, 6)] {
+        let mut bytes = described(&harbour(), &example_orders().concat());
+        bytes[0] |= 1 << 7;
+        bytes[1] = room;
+        assert_eq!(Input::read(&bytes).orders.len(), 8 * orders);
+    }
+}
+
 /// The space is exact, one too short and more, or longer, as the form and the room say.
 #[test]
 fn every_length_of_a_space() {

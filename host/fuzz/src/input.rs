@@ -171,17 +171,35 @@ pub fn raw(form: u8, book: &[u8], orders: &[u8]) -> Vec<u8> {
 
 /// The bytes of an input that describes this book, with an exact space.
 pub fn described(book: &Book, orders: &[u8]) -> Vec<u8> {
-    let mut bytes = vec![book.counts.len() as u8 - 1, book.sheets.len() as u8];
-    bytes.extend(book.counts.iter().map(|count| count - 1));
+    let mut bytes = described_head(&book.counts, book.sheets.len());
     for sheet in &book.sheets {
-        let set: u16 = sheet.columns.iter().map(|column| 1 << column).sum();
-        bytes.push(sheet.columns.len() as u8 - 1);
-        bytes.extend(set.to_le_bytes());
-        bytes.extend((sheet.rows.len() as u16).to_le_bytes());
-        bytes.push(0);
+        let set = sheet.columns.iter().map(|column| 1 << column).sum();
+        bytes.extend(described_sheet(set, sheet.rows.len(), 0));
         bytes.extend(sheet.rows.iter().flatten());
     }
     front(DESCRIBED, orders, &bytes)
+}
+
+/// The same of a book whose sheets have these columns, as sets, and so many rows each, by seeds.
+pub fn described_by_seed(counts: &[u8], columns: &[u16], rows: &[usize], orders: &[u8]) -> Vec<u8> {
+    let mut bytes = described_head(counts, columns.len());
+    for (seed, (&set, &rows)) in (1..).zip(columns.iter().zip(rows)) {
+        bytes.extend(described_sheet(set, rows, seed));
+    }
+    front(DESCRIBED, orders, &bytes)
+}
+
+fn described_head(counts: &[u8], sheets: usize) -> Vec<u8> {
+    let mut bytes = vec![counts.len() as u8 - 1, sheets as u8];
+    bytes.extend(counts.iter().map(|count| count - 1));
+    bytes
+}
+
+fn described_sheet(set: u16, rows: usize, seed: u8) -> [u8; 6] {
+    let width = set.count_ones() as u8;
+    let [set_low, set_high] = set.to_le_bytes();
+    let [low, high] = (rows as u16).to_le_bytes();
+    [width - 1, set_low, set_high, low, high, seed]
 }
 
 fn front(form: u8, orders: &[u8], book: &[u8]) -> Vec<u8> {

@@ -19,5 +19,5 @@ pub use boundary::{check_null, run_nulls, run_one_too_long, stack_used};
 pub use compare::{compare, try_bytes, Calls, Outcome, LIBRARY};
 pub use counts::Counts;
 pub use finish::{put_aside_long_finishes, ASIDE};
-pub use input::{described, raw, Input, DESCRIBED, LONGEST_INPUT, MENDED};
+pub use input::{described, described_by_seed, raw, Input, DESCRIBED, LONGEST_INPUT, MENDED};
 pub use seeds::seeds;

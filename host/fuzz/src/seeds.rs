@@ -1,14 +1,20 @@
-//! The first inputs of a fuzz run: the scope paper's examples, and seeded books and lists.
+//! The first inputs of a fuzz run: the scope paper's examples, small sweeps, and seeded books and lists.
 
-use crate::{described, raw, LONGEST_INPUT, MENDED};
+use crate::{described, described_by_seed, raw, LONGEST_INPUT, MENDED};
 use conformance::{
-    back, example_orders, harbour, narrow, tiny, write, Book, Case, Order, Run, Sheet, FINISH, MARK,
+    back, example_orders, harbour, narrow, regular, tiny, write, Book, Case, Order, Run, Sheet,
+    FINISH, MARK,
 };
+use std::ops::Range;
 
-/// The first inputs, always the same: the paper's examples, and so many seeded runs and seeded books,
-/// damaged ones among them.
+/// The first inputs, always the same: the paper's examples, sweeps over single bytes and over row
+/// counts, and so many seeded runs and seeded books, damaged ones among them.
 pub fn seeds(count: u64) -> Vec<Vec<u8>> {
     let mut seeds = examples();
+    seeds.extend(wrong_bytes(&tiny(), 4..96, 255));
+    seeds.extend(wrong_bytes(&harbour(), 4..96, 255));
+    seeds.extend(wrong_bytes(&regular(4, 5, 1, 3, 4), 512..528, 5));
+    seeds.extend((0..=508).filter(|rows| rows % 64 < 2).map(row_count));
     for seed in 0..count {
         let run = Run::new(seed);
         seeds.push(raw(MENDED, &run.book, &run.orders));
@@ -19,6 +25,27 @@ pub fn seeds(count: u64) -> Vec<Vec<u8>> {
     }
     seeds.retain(|seed| seed.len() <= LONGEST_INPUT);
     seeds
+}
+
+/// A book with each of these bytes made this value, one at a time, and the checks mended.
+fn wrong_bytes(book: &Book, places: Range<usize>, value: u8) -> impl Iterator<Item = Vec<u8>> {
+    let bytes = write(book);
+    places.map(move |at| {
+        let mut bytes = bytes.clone();
+        bytes[at] = value;
+        raw(MENDED, &bytes, &[])
+    })
+}
+
+/// A sheet of so many rows and one of 30 more: live rows are kept in words of 64.
+fn row_count(rows: usize) -> Vec<u8> {
+    let orders = [narrow(0, 0xFF_FFFF), FINISH, narrow(3, 0xFFFF), FINISH].concat();
+    described_by_seed(
+        &[32; 4],
+        &[0b1001, 0b110],
+        &[rows, (rows + 30).min(508)],
+        &orders,
+    )
 }
 
 /// K1 to K10, and the run that document 01 prints.

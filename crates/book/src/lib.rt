@@ -1,4 +1,4 @@
-// The format FGB1: the bytes of a fitting book, checked or refused with a number and a place.
+// book: the format FGB1: the bytes of a fitting book, checked or refused with a number and a place.
 //
 // Promise: `check` returns `checkResult` of the bytes (specs/Verdicts.antt), for every byte string; an accepted book stands for a well-formed
 // one (specs/Decoding.antt). Each field of the head and each kind of fault has a definition and a function of its own.

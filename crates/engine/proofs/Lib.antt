@@ -1,3 +1,4 @@
+-- The laws behind the engine, bottom-up: the worklist, one turn of propagation, a failed state, the opening, a narrow, one order, lists of orders.
 pub mod Worklists
 pub mod Turns
 pub mod Emptied

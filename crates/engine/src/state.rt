@@ -12,7 +12,8 @@ use crate::worklist::*;
 ghost use mathlib.Core.Path.{_≡_};
 ghost use mathlib.Core.List.{[]};
 ghost use Prim.Native.Nat.{_+_, _*_, _<_, _≤_};
-ghost use lib.ListN.{replicate};
+ghost use lib.Bits.{bitAnd};
+ghost use lib.ListN.{getD, replicate};
 ghost use Rattle.book.specs.Verdicts.{Accepted};
 ghost use Rattle.book.specs.Head.{columnsOf, sheetsOf};
 ghost use Rattle.engine.specs.Layouts.{LayoutOf};
@@ -154,28 +155,14 @@ impl State {
         }
     }
 
-    // The state after column c is cut to the values in m.
-    pub fn narrowed(
-        self,
-        book: &[u8],
-        first: &[usize; 8],
-        mask: &[u32; 8],
-        c: usize,
-        m: u32,
-    ) -> State
-        requires { ⌜ Accepted (now book) × LayoutOf (now book) (now first) (now mask) × (c < columnsOf (now book)) × SomeState (now book) self ⌝ }
+    // The state after column c is cut to the values in m, of which it has some.
+    fn propagated(self, book: &[u8], first: &[usize; 8], mask: &[u32; 8], c: usize, m: u32) -> State
+        requires { ⌜ Accepted (now book) × LayoutOf (now book) (now first) (now mask) × (c < columnsOf (now book)) × SomeState (now book) self × (0 < bitAnd (getD (self .dom) c 0) m) ⌝ }
         ensures { λ r. ⌜ Narrows (now (book .entry)) c m self r ⌝ }
     {
         let mut dom = self.dom;
         let d = dom[c];
-        let e = d & m;
-        if e == d {
-            return self;
-        }
-        if e == 0 {
-            return self.failed();
-        }
-        dom[c] = e;
+        dom[c] = d & m;
         let mut live = self.live;
         let mut index = self.index;
         let mut limit = self.limit;
@@ -198,5 +185,29 @@ impl State {
             index: index,
             limit: limit,
         }
+    }
+
+    // The state after column c is cut to the values in m.
+    pub fn narrowed(
+        self,
+        book: &[u8],
+        first: &[usize; 8],
+        mask: &[u32; 8],
+        c: usize,
+        m: u32,
+    ) -> State
+        requires { ⌜ Accepted (now book) × LayoutOf (now book) (now first) (now mask) × (c < columnsOf (now book)) × SomeState (now book) self ⌝ }
+        ensures { λ r. ⌜ Narrows (now (book .entry)) c m self r ⌝ }
+    {
+        let dom = self.dom;
+        let d = dom[c];
+        let e = d & m;
+        if e == d {
+            return self;
+        }
+        if e == 0 {
+            return self.failed();
+        }
+        self.propagated(book, first, mask, c, m)
     }
 }

@@ -1,5 +1,7 @@
-// Reads book.bin and a list of orders from standard input, runs the list over the book, and prints the answers. All that can be said of the
-// text is in `put_run`; the rest reads and writes.
+// fit: the program. Reads book.bin and a list of orders from standard input, runs the list over the book, and prints the answers.
+//
+// Promise: `put_run` puts `runText` (specs/Prints.antt) of the bytes read, for any book and orders. The rest reads and writes by the kit's libraries,
+// whose C functions' contracts are assumed.
 use book::fields::wide;
 use libc::STDOUT_FILENO;
 ghost use mathlib.Core.Path.{_≡_};

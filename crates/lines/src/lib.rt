@@ -1,7 +1,8 @@
-// The text of a run, put into a buffer. No input or output belongs to this crate: a program hands it the run's number and the answers, and
+// lines: the text of a run, put into a buffer. No input or output belongs to this crate: a program hands it the run's number and the answers, and
 // writes the buffer out.
 //
-//   print    the lines of all answers and the last line, or the one line of a refused run
+// Promise: `print` puts `printed` (specs/Texts.antt) at the front of the buffer: the paper's line for each answer and its last line, or the one
+// line of a refused run.
 //
 // Each function takes the buffer and a place `at` in it, puts its text there and returns the place behind it.
 use book::fields::word_of;

@@ -1,7 +1,7 @@
 -- Laws of a list on its way, and of two whole lists. Assumes nothing.
 -- ---- how many, and the last
 use mathlib.Core.Path.{_∙_, _≡_, ap, refl, subst, subst⁻¹, sym}
-use mathlib.Core.Bool.{Bool, _||_, cond, false, true}
+use mathlib.Core.Bool.{Bool, _&&_, _||_, cond, false, false≢true, true}
 use mathlib.Core.Logic.{_⊎_, inl, inr}
 use mathlib.Core.Option.{Option, none, some}
 use mathlib.Core.List.{List, [], _++_, _∷_}
@@ -19,7 +19,7 @@ use Rattle.model.specs.Solutions.{firstSolution}
 use Rattle.model.specs.Tests.{oneIf, tab}
 use Rattle.model.proofs.Demands.{answer-finish, answer-other, claim1, claim3, gives-demand3}
 use Rattle.model.proofs.Refusals.{push-finish, refusal-back, refusal-finish, refusal-mark, refusal-narrow, refusal-other}
-use Rattle.model.proofs.Tests.{and-i, below, either, getD-tab, length-tab}
+use Rattle.model.proofs.Tests.{and-i, and-l, and-r, below, either, getD-tab, length-tab}
 use Rattle.model.proofs.Trails.{accepted-snoc, answers-snoc, trail-snoc}
 use Rattle.book.specs.Decoding.{bookOf}
 use Rattle.book.specs.Head.{columnsOf}
@@ -29,13 +29,13 @@ use Rattle.engine.specs.Sessions.{SomeState}
 use Rattle.engine.specs.declared.session.Session.{Session}
 use Rattle.engine.specs.declared.state.State.{State}
 use Rattle.engine.proofs.Lists.{orders-more, tab-last}
-use Rattle.engine.proofs.Steps.{step-refused}
+use Rattle.engine.proofs.Steps.{narrow-holds, step-narrow, step-refused}
 use Rattle.engine.proofs.Turns.{columns-count}
 use Rattle.search.specs.Searches.{Finishes, isFound}
 use Rattle.search.specs.declared.Found.{Found}
 use Rattle.answers.specs.Parts.{finishAnswer, over, stateAnswer}
 use Rattle.answers.proofs.States.{finish-answer, state-answer}
-use Rattle.runs.specs.Runs.{Compares, EnginesCompare, FinishesAt, RanTo, ShowsAt, current}
+use Rattle.runs.specs.Runs.{AnswersAt, Compares, EnginesCompare, FinishesAt, RanTo, ShowsAt, current}
 use Rattle.runs.specs.Spaces.{Adds, allBytes, written}
 use Rattle.runs.proofs.Spaces.{adds, answer-part, length-written, written-over}
 
@@ -122,16 +122,12 @@ saved-state {b} {L} {s} m h p q = record { stands = before (suc (m - 1)) L; is =
 pub back-wide : {m a d : ℕ} → m ≡ a → (1 ≤ a) × (a ≤ d) × (d ≤ 16) → (1 ≤ m) × (m ≤ d) × (d ≤ 16)
 back-wide e q = (omega (arith, q .0), omega (arith, q .1), q .2)
 
--- an accepted order that is no narrow, no mark and no back is a finish
-pub only-finish : {b : List ℕ} (x : List ℕ) {L : List Entry} {s : Session} {r : ℕ} → Holds b L s → Refuses b (s .depth) x r → r ≡ 0
-    → (kind x ≡ 1 → ⊥) → (kind x ≡ 2 → ⊥) → (kind x ≡ 3 → ⊥) → kind x ≡ 4
-only-finish {b} x {L} {s} {r} h f z p q u = go (either (eqb (kind x) 4))
-  where
-    go : (eqb (kind x) 4 ≡ true) ⊎ (eqb (kind x) 4 ≡ false) → kind x ≡ 4
-    go (inl e) = eqb-true (kind x) 4 e
-    go (inr e) =
-        let y : r ≡ 20 = f L (h .deep) ∙ refusal-other (bookOf b) L x p q u (eqb-false (kind x) 4 e) in
-        absurd (omega arith)
+-- an accepted order counts, a refused one doesn't
+pub counts-one : (k : ℕ) {r : ℕ} → r ≡ 0 → k + 1 ≡ k + oneIf (eqb r 0)
+counts-one k {r} z = ap (λ (t : Bool). k + oneIf t) (sym (eq-eqb r 0 z))
+
+pub counts-none : (k : ℕ) {r : ℕ} → (r ≡ 0 → ⊥) → k ≡ k + oneIf (eqb r 0)
+counts-none k {r} z = let e : eqb r 0 ≡ false = ne-eqb r 0 z in rw e (omega arith)
 
 -- ---- one answer
 module _ {b : List ℕ} {st : State} (d : ℕ) (i : ℕ) (space : List ℕ) where
@@ -157,6 +153,27 @@ module _ {b : List ℕ} {st : State} (d : ℕ) (i : ℕ) (space : List ℕ) wher
       shown o y c l =
           rw (y, columns-count b) (getD-tab 0 16 (λ c. getD (solutionMasks (columnsOf b) o) c 0) c l)
 
+-- what an order's writer ensures, of the answer to it: whatever trail stood before the order
+pub order-adds : {b : List ℕ} {s t : Session} (x : List ℕ) {r : ℕ} (i : ℕ) (space : List ℕ) {space′ : List ℕ} → Refuses b (s .depth) x r → Stepped b s x t
+    → AnswersAt b x r (t .now) (t .depth) i space space′ → (L : List Entry) → Holds b L s → Adds i (answer (bookOf b) L x) space space′
+order-adds {b} {s} {t} x {r} i space {space′} f g w L h = go (either (eqb (kind x) 4 && isAccepted (bookOf b) L x))
+  where
+    refuses : r ≡ refusal (bookOf b) L x
+    refuses = f L (h .deep)
+
+    after : Holds b (push (bookOf b) L x) t
+    after = g L h
+
+    go : ((eqb (kind x) 4 && isAccepted (bookOf b) L x) ≡ true) ⊎ ((eqb (kind x) 4 && isAccepted (bookOf b) L x) ≡ false) → Adds i (answer (bookOf b) L x) space space′
+    go (inl e) =
+        let k : kind x ≡ 4 = eqb-true (kind x) 4 (and-l _ _ e) in
+        let z : r ≡ 0 = refuses ∙ eqb-true (refusal (bookOf b) L x) 0 (and-r (eqb (kind x) 4) _ e) in
+        rw (answer-finish (bookOf b) L x e) (rw (push-finish (bookOf b) L x k) at (w .finish z k (push (bookOf b) L x) (after .current) (after .deep)))
+    go (inr e) =
+        rw (answer-other (bookOf b) L x e)
+        (rw refuses at
+        (w .other (λ z k. false≢true (sym e ∙ and-i (eq-eqb (kind x) 4 k) (eq-eqb (refusal (bookOf b) L x) 0 (sym refuses ∙ z)))) (push (bookOf b) L x) (after .current) (after .deep)))
+
 pub opened-at : {b : List ℕ} {s : Session} (space : List ℕ) {space′ : List ℕ} → Holds b [] s → ShowsAt b (s .now) 0 0 0 space space′
     → Adds 0 (opening (bookOf b)) space space′
 unfolding depth
@@ -181,52 +198,23 @@ module _ (b o old : List ℕ) where
   ran-room {n} {k} {s} {space} h l =
       ap length (h .wrote) ∙ length-written (answers bk (ordersTo o n)) old (omega (arith, length-answers bk o n))
 
+  -- one order more
   module _ {n k : ℕ} {s : Session} {space x : List ℕ} (e : x ≡ orderAt o n) (room : 72 * (n + 1) + 72 ≤ length old) (h : RanTo b o old n s k space)
       {r : ℕ} (f : Refuses b (s .depth) x r) where
-    refuses : refusal bk (T n) (orderAt o n) ≡ r
-    refuses = sym (rw e at (f (T n) (h .holds .deep)))
-
-    -- one order more, whatever it was
-    more : {t : Session} {j : ℕ} {a : Answer} {space′ : List ℕ} → Stepped b s x t → j ≡ k + oneIf (isAccepted bk (T n) (orderAt o n))
-        → answer bk (T n) (orderAt o n) ≡ a → Adds (n + 1) a space space′ → RanTo b o old (n + 1) t j space′
-    more {t} {j} {a} {space′} g c q w = record {
+    pub more : {t : Session} {j : ℕ} {space′ : List ℕ} → Stepped b s x t → j ≡ k + oneIf (eqb r 0) → AnswersAt b x r (t .now) (t .depth) (n + 1) space space′
+        → RanTo b o old (n + 1) t j space′
+    more {t} {j} {space′} g c w = record {
       holds = rw (orders-more o n, trail-snoc bk [] (ordersTo o n) (orderAt o n), ← e) (g _ (h .holds));
-      counts = c ∙ ap (λ (i : ℕ). i + oneIf (isAccepted bk (T n) (orderAt o n))) (h .counts) ∙ sym (accepted-snoc bk [] (ordersTo o n) (orderAt o n)) ∙ ap (acceptedCount bk) (sym (orders-more o n));
+      counts =
+          c
+          ∙ ap (λ (i : ℕ). k + oneIf (eqb i 0)) (rw e at (f (T n) (h .holds .deep)))
+          ∙ ap (λ (i : ℕ). i + oneIf (isAccepted bk (T n) (orderAt o n))) (h .counts)
+          ∙ sym (accepted-snoc bk [] (ordersTo o n) (orderAt o n))
+          ∙ ap (acceptedCount bk) (sym (orders-more o n));
       wrote =
-          subst (λ (l : List Answer). space′ ≡ written l old) (sym (answers-more bk o n ∙ ap (λ (c : Answer). answers bk (ordersTo o n) ++ (c ∷ [])) q))
-          (w (answers bk (ordersTo o n)) old (length-answers bk o n) room (h .wrote));
+          subst (λ (l : List Answer). space′ ≡ written l old) (sym (answers-more bk o n))
+          ((rw e at (order-adds x (n + 1) space f g w (T n) (h .holds))) (answers bk (ordersTo o n)) old (length-answers bk o n) room (h .wrote));
     }
-
-    pub more-refused : {space′ : List ℕ} → (r ≡ 0 → ⊥) → ShowsAt b (s .now) (s .depth) r (n + 1) space space′ → RanTo b o old (n + 1) s k space′
-    more-refused {space′} z w =
-        more (step-refused b s x f z)
-        (let q : isAccepted bk (T n) (orderAt o n) ≡ false = ne-eqb _ 0 (λ y. z (sym refuses ∙ y)) in rw q (omega arith))
-        (claim1 bk .refused (T n) (orderAt o n) (λ y. z (sym refuses ∙ y)) .shows ∙ ap (showing bk (T n)) refuses)
-        (w (T n) (h .holds .current) (h .holds .deep))
-
-    module _ (z : r ≡ 0) where
-      taken : isAccepted bk (T n) (orderAt o n) ≡ true
-      taken = eq-eqb _ 0 (refuses ∙ z)
-
-      counted : k + 1 ≡ k + oneIf (isAccepted bk (T n) (orderAt o n))
-      counted = ap (λ (i : Bool). k + oneIf i) (sym taken)
-
-      -- a narrow, a mark or a back
-      pub more-stepped : {t : Session} {space′ : List ℕ} → (kind x ≡ 4 → ⊥) → Stepped b s x t → ShowsAt b (t .now) (t .depth) 0 (n + 1) space space′
-          → RanTo b o old (n + 1) t (k + 1) space′
-      more-stepped {t} {space′} ne g w =
-          more g counted
-          (answer-other bk (T n) (orderAt o n) (rw (← e, ne-eqb (kind x) 4 ne) refl) ∙ ap (showing bk (push bk (T n) (orderAt o n))) (refuses ∙ z))
-          (w (push bk (T n) (orderAt o n)) (now .current) (now .deep))
-        where
-          now : Holds b (push bk (T n) (orderAt o n)) t
-          now = rw (← e) (g (T n) (h .holds))
-
-      pub more-finished : {space′ : List ℕ} → kind x ≡ 4 → FinishesAt b (s .now) (s .depth) (n + 1) space space′ → RanTo b o old (n + 1) s (k + 1) space′
-      more-finished {space′} q w =
-          more (λ L p. subst⁻¹ (λ (M : List Entry). Holds b M s) (push-finish bk L x q) p) counted
-          (answer-finish bk (T n) (orderAt o n) (and-i (eq-eqb (kind (orderAt o n)) 4 (rw (← e) q)) taken))
-          (w (T n) (h .holds .current) (h .holds .deep))
 
   -- ---- whole lists
   -- the space after the opening stands for the one before it

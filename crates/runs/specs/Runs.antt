@@ -5,7 +5,7 @@ use Prim.Native.Nat.{_/_, ℕ}
 use lib.ListN.{length}
 use Rattle.model.specs.Answers.{acceptedCount, answerAt, answers, finishing, showing}
 use Rattle.model.specs.Demands.{Demand3, Opened, Run, Stepped}
-use Rattle.model.specs.Orders.{Entry, depth, trail}
+use Rattle.model.specs.Orders.{Entry, depth, kind, trail}
 use Rattle.book.specs.Decoding.{bookOf}
 use Rattle.engine.specs.Holds.{Holds}
 use Rattle.engine.specs.Lists.{ordersOf, ordersTo}
@@ -24,6 +24,11 @@ ShowsAt b st d r i space space′ =
 abbrev pub FinishesAt : List ℕ → State → ℕ → ℕ → List ℕ → List ℕ → Type 0
 FinishesAt b st d i space space′ =
     (L : List Entry) → StateIs b L st → d ≡ depth L → Adds i (finishing (bookOf b) L) space space′
+
+-- answer i is that to the order x with the refusal r or 0, which left the state st at depth d
+pub record AnswersAt (b x : List ℕ) (r : ℕ) (st : State) (d i : ℕ) (space space′ : List ℕ) : Type 0 where
+  pub finish : r ≡ 0 → kind x ≡ 4 → FinishesAt b st d i space space′
+  pub other : (r ≡ 0 → kind x ≡ 4 → ⊥) → ShowsAt b st d r i space space′
 
 -- ---- a whole list
 -- after the first n orders, in a space that was `old`

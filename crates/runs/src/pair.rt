@@ -1,6 +1,5 @@
 // Two whole lists compared: demand 3, of the sessions that the run's own loop gives back.
 use crate::run::*;
-use engine::layout::*;
 use engine::session::*;
 ghost use lib.ListN.{length};
 ghost use Rattle.runs.specs.Results.{RightInput};
@@ -17,11 +16,8 @@ pub fn run_both(book: &[u8], xs: &[u8], ys: &[u8], a: &mut [u8], d: &mut [u8]) -
     requires { ⌜ RightInput (now book) (now xs) (length (now a)) × RightInput (now book) (now ys) (length (now d)) ⌝ }
     ensures { λ r. ⌜ Compares (now (book .entry)) (now (xs .entry)) (now (ys .entry)) (r .left) (r .right) (now (a .exit)) (now (d .exit)) ⌝ }
 {
-    let mut first = [0usize; 8];
-    let mut mask = [0u32; 8];
-    lay_out(book, &mut first, &mut mask);
-    let p = run_orders(book, &first, &mask, xs, a);
-    let q = run_orders(book, &first, &mask, ys, d);
+    let p = run_orders(book, xs, a);
+    let q = run_orders(book, ys, d);
     let left = p.session;
     let right = q.session;
     Pair {

@@ -1,5 +1,6 @@
 // The run of a list: any bytes as book and orders, any answer space.
 use crate::shown::*;
+use book::fields::wide;
 use engine::layout::*;
 use engine::orders::*;
 use engine::session::*;
@@ -7,9 +8,7 @@ use engine::state::*;
 ghost use mathlib.Core.Path.{_≡_};
 ghost use Prim.Native.Nat.{_+_, _*_, _/_, _<_, _≤_};
 ghost use lib.ListN.{length};
-ghost use Rattle.book.specs.Verdicts.{Accepted};
-ghost use Rattle.engine.specs.Layouts.{LayoutOf};
-ghost use Rattle.runs.specs.Results.{wrongList, spaceNeeded, RightInput, runResult, runSpace};
+ghost use Rattle.runs.specs.Results.{wrongList, RightInput, runResult, runSpace};
 ghost use Rattle.runs.specs.Runs.{RanTo};
 
 // What is left when every order has been run: how many were accepted, and the session.
@@ -20,52 +19,36 @@ pub struct Ran {
 
 // Every order run in turn, from the opening, and answered. The orders are written out as the session's methods have them: a method takes
 // and gives the session by value, and where a saved state is reached by a number that varies, that copies all sixteen each time.
-pub fn run_orders(
-    book: &[u8],
-    first: &[usize; 8],
-    mask: &[u32; 8],
-    orders: &[u8],
-    answers: &mut [u8],
-) -> Ran
-    requires { ⌜ Accepted (now book) × LayoutOf (now book) (now first) (now mask) × (length (now orders) ≤ 2048) × (spaceNeeded (now orders) ≤ length (now answers)) ⌝ }
+pub fn run_orders(book: &[u8], orders: &[u8], answers: &mut [u8]) -> Ran
+    requires { ⌜ RightInput (now book) (now orders) (length (now answers)) ⌝ }
     ensures { λ r. ⌜ RanTo (now (book .entry)) (now (orders .entry)) (now (answers .entry)) (length (now (orders .entry)) / 8) (r .session) (r .accepted) (now (answers .exit)) ⌝ }
 {
-    let n = orders.len() / 8;
-    let mut s = opened(answers, book, first, mask);
+    let mut first = [0usize; 8];
+    let mut mask = [0u32; 8];
+    lay_out(book, &mut first, &mut mask);
+    let mut s = opened(answers, book, &first, &mask);
     let mut accepted: u64 = 0;
     let mut i: usize = 0;
-    while i < n {
+    while i < orders.len() / 8 {
         let order = &orders[8 * i..8 * i + 8];
         let depth = s.depth;
         let st = s.now;
         let r = refusal(book, depth, order);
         i += 1;
-        if r != 0 {
-            show(answers, i, book, first, mask, r, depth, st);
-            continue;
+        if r == 0 {
+            accepted += 1;
+            if order[0] == 1 {
+                s.now = st.narrowed(book, &first, &mask, wide(order[1]), mask_of(order));
+            } else if order[0] == 2 {
+                s.saved[depth] = st;
+                s.depth = depth + 1;
+            } else if order[0] == 3 {
+                let m = wide(order[1]) - 1;
+                s.now = s.saved[m];
+                s.depth = m;
+            }
         }
-        accepted += 1;
-        let m = book::fields::wide(order[1]);
-        if order[0] == 1 {
-            let t = st.narrowed(book, first, mask, m, mask_of(order));
-            s.now = t;
-            show(answers, i, book, first, mask, 0, depth, t);
-            continue;
-        }
-        if order[0] == 2 {
-            s.saved[depth] = st;
-            s.depth = depth + 1;
-            show(answers, i, book, first, mask, 0, depth + 1, st);
-            continue;
-        }
-        if order[0] == 3 {
-            let t = s.saved[m - 1];
-            s.now = t;
-            s.depth = m - 1;
-            show(answers, i, book, first, mask, 0, m - 1, t);
-            continue;
-        }
-        show_finish(answers, i, book, first, mask, depth, st);
+        show_order(answers, i, book, &first, &mask, order, r, s.depth, s.now);
     }
     Ran {
         accepted: accepted,
@@ -88,10 +71,7 @@ fn run_right(book: &[u8], orders: &[u8], answers: &mut [u8]) -> u64
     requires { ⌜ RightInput (now book) (now orders) (length (now answers)) ⌝ }
     ensures { λ r. ⌜ (r ≡ runResult (now (book .entry)) (now (orders .entry)) (length (now (answers .entry)))) × (now (answers .exit) ≡ runSpace (now (book .entry)) (now (orders .entry)) (now (answers .entry))) ⌝ }
 {
-    let mut first = [0usize; 8];
-    let mut mask = [0u32; 8];
-    lay_out(book, &mut first, &mut mask);
-    let r = run_orders(book, &first, &mask, orders, answers);
+    let r = run_orders(book, orders, answers);
     r.accepted
 }
 

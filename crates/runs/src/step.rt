@@ -34,14 +34,6 @@ pub fn step(
     let t = s.step(book, first, mask, order);
     let d = t.depth;
     let st = t.now;
-    if refused != 0 {
-        show(answer, 0, book, first, mask, refused, d, st);
-        return t;
-    }
-    if order[0] == 4 {
-        show_finish(answer, 0, book, first, mask, d, st);
-        return t;
-    }
-    show(answer, 0, book, first, mask, 0, d, st);
+    show_order(answer, 0, book, first, mask, order, refused, d, st);
     t
 }

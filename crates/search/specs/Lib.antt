@@ -1,1 +1,2 @@
+-- What the search starts from, and what it gives.
 pub mod Searches

@@ -1,11 +1,13 @@
-// The search of a finish: the first solution, lowest by column 0, then column 1, and so on. Picking a column and trying its values take
-// turns until every column is single.
+// search: the first full set of a finish, lowest by column 0, then column 1, and so on.
+//
+// Promise: `finish` ensures `Finishes` (specs/Searches.antt): of the state of any trail it gives the first solution in its domains, or none exactly
+// when there is none. It ends, because each value that is set leaves fewer values.
 //
 //     pick_column    the lowest column with two values or more: its values from the lowest on, each tried
 //     try_value      the column set to one value, the state propagated; where a store is left, the next column is picked
 //
-// Each state of the search is that of a trail: setting column c to v is a narrow of c to v alone. So what `try_value` propagates is what a
-// narrow would, and the caller's arrays stay as they are.
+// Picking a column and trying its values take turns until every column is single. Each state of the search is that of a trail: setting column c
+// to v is a narrow of c to v alone. So what `try_value` propagates is what a narrow would, and the caller's arrays stay as they are.
 use engine::state::*;
 ghost use mathlib.Core.Path.{_≡_};
 ghost use mathlib.Core.Bool.{true, false};

@@ -1,1 +1,2 @@
+-- The worked examples.
 pub mod Acceptance

@@ -1,5 +1,7 @@
-// The calls that a customer's program makes. Each contract gives the number returned and all that is written as equations with the
-// definitions, for bytes of every length. Nothing is asked of the bytes; a caller in C hands over, for each slice, a pointer and a length:
+// service: the calls that a customer's program makes.
+//
+// Promise: each contract gives the number returned and all that is written as equations with the definitions, for bytes of every length.
+// Nothing is asked of the bytes; a caller in C hands over, for each slice, a pointer and a length:
 // `len` bytes that can be read, and for the answers also written.
 //
 //   fitting_check    checks a book: refusal × 65,536 + place, or C × 16 + S

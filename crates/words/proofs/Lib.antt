@@ -1,3 +1,5 @@
+-- The laws behind the two passes, bottom-up: bits, walks over the rows of a word, values gathered, places in the book, the index, pass 1, pass 2,
+-- and both together.
 pub mod Ones
 pub mod Walks
 pub mod Collects

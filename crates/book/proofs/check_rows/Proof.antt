@@ -55,15 +55,5 @@ returns-3 c = let r = c .before .before .before in
 pub check-rows-spec : {M : Type 1} → statement M
 check-rows-spec =
     tie.close
-    (tie.spec
-    blocks-needed-requires
-    refusal-requires
-    returns
-    fault-block-requires
-    refusal-requires-2
-    returns-2
-    columns-requires
-    mul-result
-    sheets-requires
-    add-result
-    returns-3)
+    (tie.spec blocks-needed-requires refusal-requires returns fault-block-requires refusal-requires-2 returns-2 columns-requires mul-result
+    sheets-requires add-result returns-3)

@@ -29,12 +29,4 @@ returns c =
     (t, p .print .ensures .1)
 
 pub put-run-spec : {M : Type 1} → statement M
-put-run-spec =
-    tie.close
-    (tie.spec
-    fitting-run-requires
-    columns-requires
-    print-requires
-    same-length
-    same-length-2
-    returns)
+put-run-spec = tie.close (tie.spec fitting-run-requires columns-requires print-requires same-length same-length-2 returns)

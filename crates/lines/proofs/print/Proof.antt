@@ -35,13 +35,4 @@ returns-2 c =
     (w .bytes ∙ e, w .within, w .size)
 
 pub print-spec : {M : Type 1} → statement M
-print-spec =
-    tie.close
-    (tie.spec
-    put-refused-requires
-    same-length
-    returns
-    put-lines-requires
-    put-accepted-requires
-    same-length-2
-    returns-2)
+print-spec = tie.close (tie.spec put-refused-requires same-length returns put-lines-requires put-accepted-requires same-length-2 returns-2)

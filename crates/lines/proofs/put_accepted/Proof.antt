@@ -29,12 +29,4 @@ returns c =
     written-most (written-then (written-then (word .put .ensures) (count .put-field .ensures)) (last .put-byte .ensures)) (omega arith)
 
 pub put-accepted-spec : {M : Type 1} → statement M
-put-accepted-spec =
-    tie.close
-    (tie.spec
-    slice-aggregate-put
-    put-requires
-    put-field-requires
-    put-byte-requires
-    same-length
-    returns)
+put-accepted-spec = tie.close (tie.spec slice-aggregate-put put-requires put-field-requires put-byte-requires same-length returns)

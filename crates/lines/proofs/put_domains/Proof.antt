@@ -45,15 +45,4 @@ returns c = let e : c .before .loop .c ≡ c .before .before .before .before .ar
 
 pub put-domains-spec : {M : Type 1} → statement M
 put-domains-spec =
-    tie.close
-    (tie.spec
-    Inv-loop
-    μ-loop
-    loop-holds
-    domain-requires
-    put-word-field-requires
-    add-c
-    loop-less
-    loop-again
-    same-length
-    returns)
+    tie.close (tie.spec Inv-loop μ-loop loop-holds domain-requires put-word-field-requires add-c loop-less loop-again same-length returns)

@@ -60,17 +60,6 @@ returns c =
 pub put-head-spec : {M : Type 1} → statement M
 put-head-spec =
     tie.close
-    (tie.spec
-    put-number-requires
-    shared-slice-read-put-byte-field
-    put-byte-field-requires
-    shared-slice-read-put-byte-field-2
-    put-byte-field-requires-2
-    shared-slice-read-put-byte-field-3
-    put-byte-field-requires-3
-    shared-slice-read-put-byte-field-4
-    put-byte-field-requires-4
-    shared-slice-read-put-byte-field-5
-    put-byte-field-requires-5
-    same-length
-    returns)
+    (tie.spec put-number-requires shared-slice-read-put-byte-field put-byte-field-requires shared-slice-read-put-byte-field-2
+    put-byte-field-requires-2 shared-slice-read-put-byte-field-3 put-byte-field-requires-3 shared-slice-read-put-byte-field-4
+    put-byte-field-requires-4 shared-slice-read-put-byte-field-5 put-byte-field-requires-5 same-length returns)

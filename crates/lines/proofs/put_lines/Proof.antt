@@ -61,18 +61,5 @@ returns c = let e : c .before .loop .i ≡ c .before .before .before .before .ar
 pub put-lines-spec : {M : Type 1} → statement M
 put-lines-spec =
     tie.close
-    (tie.spec
-    Inv-loop
-    μ-loop
-    loop-holds
-    mul-start
-    add-end
-    sub-put-line
-    part-put-line-start
-    part-put-line-end
-    put-line-requires
-    add-i
-    loop-less
-    loop-again
-    same-length
-    returns)
+    (tie.spec Inv-loop μ-loop loop-holds mul-start add-end sub-put-line part-put-line-start part-put-line-end put-line-requires add-i loop-less
+    loop-again same-length returns)

@@ -32,12 +32,4 @@ returns c =
     written-short (written-as (d .decimal .ensures .1 .1 ∙ e) (c .before .before .put .ensures)) (number-short (s .args .x) (s .fits .x .fits))
 
 pub put-number-spec : {M : Type 1} → statement M
-put-number-spec =
-    tie.close
-    (tie.spec
-    decimal-requires
-    array-share-prefix-figures
-    slice-aggregate-put
-    put-requires
-    same-length
-    returns)
+put-number-spec = tie.close (tie.spec decimal-requires array-share-prefix-figures slice-aggregate-put put-requires same-length returns)

@@ -36,12 +36,4 @@ returns c =
 
 pub put-refused-spec : {M : Type 1} → statement M
 put-refused-spec =
-    tie.close
-    (tie.spec
-    slice-aggregate-put
-    put-requires
-    put-field-requires
-    put-field-requires-2
-    put-byte-requires
-    same-length
-    returns)
+    tie.close (tie.spec slice-aggregate-put put-requires put-field-requires put-field-requires-2 put-byte-requires same-length returns)

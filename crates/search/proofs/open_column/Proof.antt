@@ -46,15 +46,5 @@ returns-2 c = firstIn-end (omega arith) (c .before .loop .inv .0) (omega (arith,
 pub open-column-spec : {M : Type 1} → statement M
 open-column-spec =
     tie.close
-    (tie.spec
-    Inv-loop
-    μ-loop
-    loop-holds
-    mul-two-or-more
-    element-copy-out-two-or-more
-    two-or-more-requires
-    returns
-    add-c
-    loop-less
-    loop-again
+    (tie.spec Inv-loop μ-loop loop-holds mul-two-or-more element-copy-out-two-or-more two-or-more-requires returns add-c loop-less loop-again
     returns-2)

@@ -13,7 +13,11 @@ same-length : tie.Need-same-length
 same-length c = search needs
 
 returns : tie.Need-returns
-returns c = let s = c .before .before .before .before .before .before .before .before .before in whole (s .args .out .now) (record { refused = s .args .refused; status = s .args .status; depth = s .args .depth; outcome = s .args .outcome; done = s .args .done; shown = s .args .shown .now }) (s .pre) (c .before .before .before .before .before .before .put-head .ensures) (c .before .before .put-domains .ensures)
+returns c =
+    let at-put-head = c .before .before .before .before .before .before in
+    let at = at-put-head .before .before .before in
+    let s = at in
+    whole (s .args .out .now) (record { refused = s .args .refused; status = s .args .status; depth = s .args .depth; outcome = s .args .outcome; done = s .args .done; shown = s .args .shown .now }) (s .pre) (at-put-head .put-head .ensures) (c .before .before .put-domains .ensures)
 
 pub put-answer-spec : {M : Type 1} → statement M
 put-answer-spec = tie.close (tie.spec put-head-requires put-domains-requires same-length returns)

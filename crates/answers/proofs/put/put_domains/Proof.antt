@@ -40,7 +40,17 @@ loop-less : tie.Need-loop-less Inv-loop μ-loop
 loop-less c = search needs
 
 loop-again : tie.Need-loop-again Inv-loop μ-loop
-loop-again c = let loop = c .before .before .before .before .before .before .loop in let s = c .before .before .before .before .before .before .before .before in (search needs, c .before .before .put-word .kept .0 ∙ loop .inv .1, domains-more (s .args .out .now) (s .args .shown .now) (loop .c) _ (s .pre) (c .before .before .before .before .before .loop-test .taken) (loop .inv .2) (c .before .before .put-word .ensures) (omega arith))
+loop-again c =
+    let at-put-word = c .before .before in
+    let turn = at-put-word .before .before .before in
+    let head = turn .before in
+    let at = head .before .before in
+    let loop = head .loop in
+    let s = at in (
+      search needs,
+      at-put-word .put-word .kept .0 ∙ loop .inv .1,
+      domains-more (s .args .out .now) (s .args .shown .now) (loop .c) _ (s .pre) (turn .loop-test .taken) (loop .inv .2) (at-put-word .put-word .ensures) (omega arith),
+    )
 
 same-length : tie.Need-same-length Inv-loop μ-loop
 same-length c = search needs
@@ -51,17 +61,5 @@ returns c = let e : c .before .loop .c ≡ 16 = omega (arith, c .loop-test .left
 pub put-domains-spec : {M : Type 1} → statement M
 put-domains-spec =
     tie.close
-    (tie.spec
-    Inv-loop
-    μ-loop
-    loop-holds
-    mul-put-word
-    add-put-word
-    mul-put-word-2
-    element-copy-out-put-word
-    put-word-requires
-    add-c
-    loop-less
-    loop-again
-    same-length
-    returns)
+    (tie.spec Inv-loop μ-loop loop-holds mul-put-word add-put-word mul-put-word-2 element-copy-out-put-word put-word-requires add-c loop-less
+    loop-again same-length returns)

@@ -47,17 +47,5 @@ returns c = word-stored (c .args .out .now) (c .args .at) (c .args .x) (c .pre .
 pub put-word-spec : {M : Type 1} → statement M
 put-word-spec =
     tie.close
-    (tie.spec
-    cast-out
-    slice-write-out
-    cast-out-2
-    add-out
-    slice-write-out-2
-    cast-out-3
-    add-out-2
-    slice-write-out-3
-    cast-out-4
-    add-out-3
-    slice-write-out-4
-    same-length
-    returns)
+    (tie.spec cast-out slice-write-out cast-out-2 add-out slice-write-out-2 cast-out-3 add-out-2 slice-write-out-3 cast-out-4 add-out-3
+    slice-write-out-4 same-length returns)

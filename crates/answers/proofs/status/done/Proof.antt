@@ -47,21 +47,14 @@ loop-again c = let loop = c .before .before .before .loop in (omega (arith, c .b
 
 returns-2 : tie.Need-returns-2 Inv-loop μ-loop
 unfolding doneFrom
-returns-2 c = let e : c .before .loop .s ≡ c .before .before .sheets .result = omega (arith, c .loop-test .left, c .before .loop .inv .0) in c .before .loop .inv .1 ∙ sym (rw (ne-eqb _ _ (c .before .before .before .if1 .left), ← c .before .before .sheets .ensures .0, ← e) refl)
+returns-2 c =
+    let head = c .before in
+    let at-sheets = head .before in
+    let e : head .loop .s ≡ at-sheets .sheets .result = omega (arith, c .loop-test .left, head .loop .inv .0) in
+    head .loop .inv .1 ∙ sym (rw (ne-eqb _ _ (c .before .before .before .if1 .left), ← at-sheets .sheets .ensures .0, ← e) refl)
 
 pub done-spec : {M : Type 1} → statement M
 done-spec =
     tie.close
-    (tie.spec
-    Inv-loop
-    μ-loop
-    returns
-    sheets-requires
-    loop-holds
-    mul-done-bit
-    element-copy-out-done-bit
-    done-bit-requires
-    add-s
-    loop-less
-    loop-again
-    returns-2)
+    (tie.spec Inv-loop μ-loop returns sheets-requires loop-holds mul-done-bit element-copy-out-done-bit done-bit-requires add-s loop-less
+    loop-again returns-2)

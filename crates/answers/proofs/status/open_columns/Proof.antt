@@ -41,15 +41,4 @@ returns c = let e : c .before .loop .c ≡ 16 = omega (arith, c .loop-test .left
 
 pub open-columns-spec : {M : Type 1} → statement M
 open-columns-spec =
-    tie.close
-    (tie.spec
-    Inv-loop
-    μ-loop
-    loop-holds
-    mul-open-bit
-    element-copy-out-open-bit
-    open-bit-requires
-    add-c
-    loop-less
-    loop-again
-    returns)
+    tie.close (tie.spec Inv-loop μ-loop loop-holds mul-open-bit element-copy-out-open-bit open-bit-requires add-c loop-less loop-again returns)

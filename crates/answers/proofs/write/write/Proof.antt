@@ -54,16 +54,5 @@ returns c =
 pub write-spec : {M : Type 1} → statement M
 write-spec =
     tie.close
-    (tie.spec
-    open-columns-requires
-    element-copy-out-first
-    status-requires
-    done-requires
-    mul-from
-    add-to
-    sub-put-answer
-    part-put-answer-start
-    part-put-answer-end
-    put-answer-requires
-    same-length
-    returns)
+    (tie.spec open-columns-requires element-copy-out-first status-requires done-requires mul-from add-to sub-put-answer part-put-answer-start
+    part-put-answer-end put-answer-requires same-length returns)

@@ -36,15 +36,4 @@ returns-2 : tie.Need-returns-2 Inv-loop μ-loop
 returns-2 c = firstIn-end (search needs) (search needs) (search needs) (c .before .loop .inv .1)
 
 pub first-wrong-check-spec : {M : Type 1} → statement M
-first-wrong-check-spec =
-    tie.close
-    (tie.spec
-    Inv-loop
-    μ-loop
-    loop-holds
-    wrong-check-requires
-    returns
-    add-n
-    loop-less
-    loop-again
-    returns-2)
+first-wrong-check-spec = tie.close (tie.spec Inv-loop μ-loop loop-holds wrong-check-requires returns add-n loop-less loop-again returns-2)

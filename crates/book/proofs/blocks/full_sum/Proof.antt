@@ -65,21 +65,6 @@ returns c = let e : c .before .loop .i ≡ 128 = omega arith in rw e at (c .befo
 pub full-sum-spec : {M : Type 1} → statement M
 full-sum-spec =
     tie.close
-    (tie.spec
-    Inv-loop
-    μ-loop
-    loop-holds
-    mul-at
-    shared-slice-read-word-of
-    add-word-of
-    shared-slice-read-word-of-2
-    add-word-of-2
-    shared-slice-read-word-of-3
-    add-word-of-3
-    shared-slice-read-word-of-4
-    word-of-requires
-    wrapping-add-u32-requires
-    add-i
-    loop-less
-    loop-again
+    (tie.spec Inv-loop μ-loop loop-holds mul-at shared-slice-read-word-of add-word-of shared-slice-read-word-of-2 add-word-of-2
+    shared-slice-read-word-of-3 add-word-of-3 shared-slice-read-word-of-4 word-of-requires wrapping-add-u32-requires add-i loop-less loop-again
     returns)

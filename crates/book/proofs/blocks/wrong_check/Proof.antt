@@ -34,11 +34,5 @@ returns c = let k = c .before .before .before .before in
 pub wrong-check-spec : {M : Type 1} → statement M
 wrong-check-spec =
     tie.close
-    (tie.spec
-    block-requires
-    check-in-requires
-    wrapping-add-u32-requires
-    full-sum-requires
-    number-in-check-requires
-    wrapping-add-u32-requires-2
+    (tie.spec block-requires check-in-requires wrapping-add-u32-requires full-sum-requires number-in-check-requires wrapping-add-u32-requires-2
     returns)

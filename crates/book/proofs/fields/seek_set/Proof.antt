@@ -36,15 +36,4 @@ returns-2 : tie.Need-returns-2 Inv-loop μ-loop
 returns-2 c = firstIn-end (search needs) (search needs) (search needs) (c .before .loop .inv .2)
 
 pub seek-set-spec : {M : Type 1} → statement M
-seek-set-spec =
-    tie.close
-    (tie.spec
-    Inv-loop
-    μ-loop
-    loop-holds
-    set-at-requires
-    returns
-    add-i
-    loop-less
-    loop-again
-    returns-2)
+seek-set-spec = tie.close (tie.spec Inv-loop μ-loop loop-holds set-at-requires returns add-i loop-less loop-again returns-2)

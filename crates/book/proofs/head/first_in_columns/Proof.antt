@@ -31,7 +31,9 @@ add-result-2 : tie.Need-add-result-2 Inv-loop μ-loop
 add-result-2 c = search needs
 
 returns : tie.Need-returns Inv-loop μ-loop
-returns c = let k = c .before .before .before .before .before in
+returns c =
+    let at = c .before .before .before .before .before in
+    let k = at in
     firstIn-found (search needs) (search needs) (c .before .before .before .loop .inv .1)
     (field-column (k .args .h .now) _ (k .pre .1) (k .pre .2) _ (c .before .before .loop-test .taken) ∙ sym (c .before .wrong-column .ensures) ∙ c .if1 .taken)
 
@@ -63,19 +65,5 @@ returns-2 c = firstIn-end (search needs) (search needs) (search needs) (c .befor
 pub first-in-columns-spec : {M : Type 1} → statement M
 first-in-columns-spec =
     tie.close
-    (tie.spec
-    Inv-loop
-    μ-loop
-    loop-holds
-    wrong-column-requires
-    mul-result
-    add-result
-    add-result-2
-    returns
-    add-j
-    loop-less
-    loop-again
-    mul-result-2
-    add-result-3
-    add-result-4
-    returns-2)
+    (tie.spec Inv-loop μ-loop loop-holds wrong-column-requires mul-result add-result add-result-2 returns add-j loop-less loop-again
+    mul-result-2 add-result-3 add-result-4 returns-2)

@@ -25,18 +25,11 @@ first-set-requires : tie.Need-first-set-requires
 first-set-requires c κs = search needs
 
 returns-2 : tie.Need-returns-2
-returns-2 c = let b = c .before .before .before .before .before .args .h .now in
+returns-2 c =
+    let start = c .before .before .before .before .before in
+    let b = start .args .h .now in
     firstIn-join (search needs) (firstIn-none (c .before .before .first-in-used .ensures) (c .before .if1 .left))
     (firstIn-same (λ i p q. sym (field-unused b i (omega arith) q)) (c .first-set .ensures))
 
 pub first-in-entries-spec : {M : Type 1} → statement M
-first-in-entries-spec =
-    tie.close
-    (tie.spec
-    sheets-requires
-    mul-end
-    add-end
-    first-in-used-requires
-    returns
-    first-set-requires
-    returns-2)
+first-in-entries-spec = tie.close (tie.spec sheets-requires mul-end add-end first-in-used-requires returns first-set-requires returns-2)

@@ -108,25 +108,6 @@ returns-5 c = let r = c .before in
 pub first-in-entry-spec : {M : Type 1} → statement M
 first-in-entry-spec =
     tie.close
-    (tie.spec
-    wrong-width-requires
-    mul-result
-    add-result
-    returns
-    first-in-columns-requires
-    mul-if2
-    add-if2
-    returns-2
-    mul-set-at
-    add-set-at
-    set-at-requires
-    mul-result-2
-    add-result-2
-    returns-3
-    wrong-rows-requires
-    mul-result-3
-    add-result-3
-    returns-4
-    mul-result-4
-    add-result-4
+    (tie.spec wrong-width-requires mul-result add-result returns first-in-columns-requires mul-if2 add-if2 returns-2 mul-set-at add-set-at
+    set-at-requires mul-result-2 add-result-2 returns-3 wrong-rows-requires mul-result-3 add-result-3 returns-4 mul-result-4 add-result-4
     returns-5)

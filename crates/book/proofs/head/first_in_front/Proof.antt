@@ -16,7 +16,9 @@ wrong-columns-requires : tie.Need-wrong-columns-requires
 wrong-columns-requires c κs = search needs
 
 returns-2 : tie.Need-returns-2
-returns-2 c = let b = c .before .before .before .before .before .args .h .now in
+returns-2 c =
+    let start = c .before .before .before .before .before in
+    let b = start .args .h .now in
     firstIn-found (search needs) (search needs)
     (right-letters b (sym (c .before .before .before .wrong-letters .ensures) ∙ c .before .before .if1 .left))
     (field-columns b ∙ sym (c .before .wrong-columns .ensures) ∙ c .if2 .taken)
@@ -51,13 +53,4 @@ returns-4 c =
 
 pub first-in-front-spec : {M : Type 1} → statement M
 first-in-front-spec =
-    tie.close
-    (tie.spec
-    wrong-letters-requires
-    returns
-    wrong-columns-requires
-    returns-2
-    wrong-sheets-requires
-    returns-3
-    first-set-requires
-    returns-4)
+    tie.close (tie.spec wrong-letters-requires returns wrong-columns-requires returns-2 wrong-sheets-requires returns-3 first-set-requires returns-4)

@@ -37,8 +37,10 @@ loop-less : tie.Need-loop-less Inv-loop μ-loop
 loop-less c = search needs
 
 loop-again : tie.Need-loop-again Inv-loop μ-loop
-loop-again c = let e : 24 + 8 * (c .before .before .before .loop .s + 1) ≡ 32 + 8 * c .before .before .before .loop .s = omega arith in
-    (search needs, rw e (none-join (c .before .before .before .loop .inv .1) (firstIn-none (c .before .first-in-entry .ensures) (c .if1 .left))))
+loop-again c =
+    let head = c .before .before .before in
+    let e : 24 + 8 * (head .loop .s + 1) ≡ 32 + 8 * head .loop .s = omega arith in
+    (search needs, rw e (none-join (head .loop .inv .1) (firstIn-none (c .before .first-in-entry .ensures) (c .if1 .left))))
 
 mul-result : tie.Need-mul-result Inv-loop μ-loop
 mul-result c = search needs
@@ -52,17 +54,5 @@ returns-2 c = firstIn-end (search needs) (search needs) (search needs) (c .befor
 pub first-in-used-spec : {M : Type 1} → statement M
 first-in-used-spec =
     tie.close
-    (tie.spec
-    Inv-loop
-    μ-loop
-    loop-holds
-    first-in-entry-requires
-    mul-if1
-    add-if1
-    returns
-    add-s
-    loop-less
-    loop-again
-    mul-result
-    add-result
+    (tie.spec Inv-loop μ-loop loop-holds first-in-entry-requires mul-if1 add-if1 returns add-s loop-less loop-again mul-result add-result
     returns-2)

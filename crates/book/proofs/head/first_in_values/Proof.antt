@@ -26,7 +26,9 @@ add-result : tie.Need-add-result Inv-loop μ-loop
 add-result c = search needs
 
 returns : tie.Need-returns Inv-loop μ-loop
-returns c = let b = c .before .before .before .before .before .args .h .now in
+returns c =
+    let start = c .before .before .before .before .before in
+    let b = start .args .h .now in
     firstIn-found (search needs) (search needs) (c .before .before .before .loop .inv .1)
     (field-values b _ (c .before .before .loop-test .taken) ∙ sym (c .before .wrong-values .ensures) ∙ c .if1 .taken)
 
@@ -51,16 +53,4 @@ returns-2 c = firstIn-end (search needs) (search needs) (search needs) (c .befor
 
 pub first-in-values-spec : {M : Type 1} → statement M
 first-in-values-spec =
-    tie.close
-    (tie.spec
-    Inv-loop
-    μ-loop
-    loop-holds
-    wrong-values-requires
-    add-result
-    returns
-    add-c
-    loop-less
-    loop-again
-    add-result-2
-    returns-2)
+    tie.close (tie.spec Inv-loop μ-loop loop-holds wrong-values-requires add-result returns add-c loop-less loop-again add-result-2 returns-2)

@@ -50,12 +50,5 @@ returns-4 c =
 pub first-wrong-field-spec : {M : Type 1} → statement M
 first-wrong-field-spec =
     tie.close
-    (tie.spec
-    first-in-front-requires
-    returns
-    first-in-values-requires
-    returns-2
-    first-in-entries-requires
-    returns-3
-    first-set-requires
+    (tie.spec first-in-front-requires returns first-in-values-requires returns-2 first-in-entries-requires returns-3 first-set-requires
     returns-4)

@@ -17,7 +17,9 @@ column-requires c κs = search needs
 
 returns : tie.Need-returns
 unfolding wrongColumn
-returns c = let k = c .before .before .before .before .before .before .args in
+returns c =
+    let start = c .before .before .before .before .before .before in
+    let k = start .args in
     let p : k .j < widthOf (k .h .now) (k .s) = omega arith in
     let q : columnsOf (k .h .now) ≤ columnOf (k .h .now) (k .s) (k .j) = omega arith in
     rw (lt-ltb _ _ p, le-leb _ _ q)
@@ -27,7 +29,9 @@ not-rising-requires c κs = search needs
 
 returns-2 : tie.Need-returns-2
 unfolding wrongColumn
-returns-2 c = let k = c .before .before .before .before .before .before .before .args in
+returns-2 c =
+    let start = c .before .before .before .before .before .before .before in
+    let k = start .args in
     let p : k .j < widthOf (k .h .now) (k .s) = omega arith in
     let q : columnOf (k .h .now) (k .s) (k .j) < columnsOf (k .h .now) = omega arith in
     rw (lt-ltb _ _ p, lt-leb _ _ q) (c .not-rising .ensures)
@@ -53,15 +57,5 @@ returns-3 c = let k = c .before .before .before .before .args in
 pub wrong-column-spec : {M : Type 1} → statement M
 wrong-column-spec =
     tie.close
-    (tie.spec
-    width-requires
-    columns-requires
-    column-requires
-    returns
-    not-rising-requires
-    returns-2
-    mul-set-at
-    add-set-at
-    add-set-at-2
-    set-at-requires
-    returns-3)
+    (tie.spec width-requires columns-requires column-requires returns not-rising-requires returns-2 mul-set-at add-set-at add-set-at-2
+    set-at-requires returns-3)

@@ -25,10 +25,5 @@ returns c = rw (c .word-of .ensures)
 pub wrong-letters-spec : {M : Type 1} → statement M
 wrong-letters-spec =
     tie.close
-    (tie.spec
-    shared-slice-read-word-of
-    shared-slice-read-word-of-2
-    shared-slice-read-word-of-3
-    shared-slice-read-word-of-4
-    word-of-requires
+    (tie.spec shared-slice-read-word-of shared-slice-read-word-of-2 shared-slice-read-word-of-3 shared-slice-read-word-of-4 word-of-requires
     returns)

@@ -18,8 +18,10 @@ out-of-range-requires c κs = search needs
 
 returns : tie.Need-returns
 unfolding wrongValues
-returns c = let b = c .before .before .before .before .before .args .h .now in
-    let h : c .before .before .before .before .before .args .c < columnsOf b = omega arith in
+returns c =
+    let start = c .before .before .before .before .before in
+    let b = start .args .h .now in
+    let h : start .args .c < columnsOf b = omega arith in
     c .out-of-range .ensures ∙ rw (lt-ltb _ _ h, c .before .values .ensures .0)
 
 add-set-at : tie.Need-add-set-at
@@ -35,13 +37,4 @@ returns-2 c = let b = c .before .before .before .before .args .h .now in
     rw (le-ltb _ _ h) (c .set-at .ensures)
 
 pub wrong-values-spec : {M : Type 1} → statement M
-wrong-values-spec =
-    tie.close
-    (tie.spec
-    columns-requires
-    values-requires
-    out-of-range-requires
-    returns
-    add-set-at
-    set-at-requires
-    returns-2)
+wrong-values-spec = tie.close (tie.spec columns-requires values-requires out-of-range-requires returns add-set-at set-at-requires returns-2)

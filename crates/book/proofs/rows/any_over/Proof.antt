@@ -70,16 +70,5 @@ returns-3 c =
 pub any-over-spec : {M : Type 1} → statement M
 any-over-spec =
     tie.close
-    (tie.spec
-    joined-rows-requires
-    below-bounds-requires
-    returns
-    any-high-requires
-    returns-2
-    sub-word-of
-    sub-word-of-2
-    sub-word-of-3
-    sub-word-of-4
-    word-of-requires
-    any-raised-requires
-    returns-3)
+    (tie.spec joined-rows-requires below-bounds-requires returns any-high-requires returns-2 sub-word-of sub-word-of-2 sub-word-of-3
+    sub-word-of-4 word-of-requires any-raised-requires returns-3)

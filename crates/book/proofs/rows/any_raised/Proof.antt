@@ -56,7 +56,9 @@ loop-less : tie.Need-loop-less Inv-loop μ-loop
 loop-less c = search needs
 
 loop-again : tie.Need-loop-again Inv-loop μ-loop
-loop-again c = let l = c .before .before .before .before .before .before .before in
+loop-again c =
+    let at = c .before .before .before .before .before .before .before in
+    let l = at in
     let k = l .before .before .args in
     (search needs, rw (raised-more (k .b .now) (k .k) (l .loop .i) _ _ _ (c .before .word-of .ensures) (c .wrapping-add-u32 .ensures)) (finds-more _ (search needs) (l .loop .inv .1)))
 
@@ -69,22 +71,6 @@ returns c = let e : c .before .before .loop .i ≡ 127 = omega arith in rw (c .a
 pub any-raised-spec : {M : Type 1} → statement M
 any-raised-spec =
     tie.close
-    (tie.spec
-    Inv-loop
-    μ-loop
-    loop-holds
-    mul-at
-    shared-slice-read-word-of
-    add-word-of
-    shared-slice-read-word-of-2
-    add-word-of-2
-    shared-slice-read-word-of-3
-    add-word-of-3
-    shared-slice-read-word-of-4
-    word-of-requires
-    wrapping-add-u32-requires
-    add-i
-    loop-less
-    loop-again
-    any-high-requires
-    returns)
+    (tie.spec Inv-loop μ-loop loop-holds mul-at shared-slice-read-word-of add-word-of shared-slice-read-word-of-2 add-word-of-2
+    shared-slice-read-word-of-3 add-word-of-3 shared-slice-read-word-of-4 word-of-requires wrapping-add-u32-requires add-i loop-less loop-again
+    any-high-requires returns)

@@ -30,7 +30,9 @@ wide32-requires-3 c κs = search needs
 
 returns-3 : tie.Need-returns-3
 unfolding belowBounds
-returns-3 c = let k = c .before .before .before .before .before .before .args in
+returns-3 c =
+    let start = c .before .before .before .before .before .before in
+    let k = start .args in
     let p : k .v % 256 < k .m .w = omega arith in
     let q : k .v / 256 % 256 < k .m .x = omega arith in
     let r : k .m .y ≤ k .v / 65536 % 256 = omega arith in
@@ -41,7 +43,9 @@ wide32-requires-4 c κs = search needs
 
 returns-4 : tie.Need-returns-4
 unfolding belowBounds
-returns-4 c = let k = c .before .before .before .before .before .before .before .args in
+returns-4 c =
+    let start = c .before .before .before .before .before .before .before in
+    let k = start .args in
     let p : k .v % 256 < k .m .w = omega arith in
     let q : k .v / 256 % 256 < k .m .x = omega arith in
     let r : k .v / 65536 % 256 < k .m .y = omega arith in
@@ -49,13 +53,4 @@ returns-4 c = let k = c .before .before .before .before .before .before .before 
 
 pub below-bounds-spec : {M : Type 1} → statement M
 below-bounds-spec =
-    tie.close
-    (tie.spec
-    wide32-requires
-    returns
-    wide32-requires-2
-    returns-2
-    wide32-requires-3
-    returns-3
-    wide32-requires-4
-    returns-4)
+    tie.close (tie.spec wide32-requires returns wide32-requires-2 returns-2 wide32-requires-3 returns-3 wide32-requires-4 returns-4)

@@ -44,11 +44,13 @@ add-result c = let l = c .before .before .before .before in
 
 returns : tie.Need-returns Inv-loop μ-loop
 unfolding blocksNeeded
-returns c = let l = c .before .before .before .before in
+returns c =
+    let at-first-in-sheet = c .before in
+    let l = c .before .before .before .before in
     let b = l .before .before .before .args .book .now in
     let p : l .loop .s < sheetsOf b = omega arith in
-    let q : c .before .first-in-sheet .result < blocksOf b (l .loop .s) = omega arith in
-    (rw (l .loop .inv .1) (sym (fault-found b (l .loop .s) _ p (l .loop .inv .2) (c .before .first-in-sheet .ensures) q)), omega (arith, firstBlock-later b (l .loop .s) (sheetsOf b) p))
+    let q : at-first-in-sheet .first-in-sheet .result < blocksOf b (l .loop .s) = omega arith in
+    (rw (l .loop .inv .1) (sym (fault-found b (l .loop .s) _ p (l .loop .inv .2) (at-first-in-sheet .first-in-sheet .ensures) q)), omega (arith, firstBlock-later b (l .loop .s) (sheetsOf b) p))
 
 add-first : tie.Need-add-first Inv-loop μ-loop
 unfolding blocksNeeded
@@ -65,30 +67,22 @@ loop-less c = search needs
 
 loop-again : tie.Need-loop-again Inv-loop μ-loop
 unfolding wrongSheet
-loop-again c = let l = c .before .before .before .before in
+loop-again c =
+    let at-first-in-sheet = c .before in
+    let l = c .before .before .before .before in
     let b = l .before .before .before .args .book .now in
-    let q : blocksOf b (l .loop .s) ≤ c .before .first-in-sheet .result = omega arith in
-    (search needs, rw (l .loop .inv .1, c .before .before .blocks-of .ensures .0) (sym (firstBlock-more b (l .loop .s))), none-more (l .loop .inv .2) (none-any (firstIn-none (c .before .first-in-sheet .ensures) q)))
+    let q : blocksOf b (l .loop .s) ≤ at-first-in-sheet .first-in-sheet .result = omega arith in
+    (search needs, rw (l .loop .inv .1, c .before .before .blocks-of .ensures .0) (sym (firstBlock-more b (l .loop .s))), none-more (l .loop .inv .2) (none-any (firstIn-none (at-first-in-sheet .first-in-sheet .ensures) q)))
 
 returns-2 : tie.Need-returns-2 Inv-loop μ-loop
-returns-2 c = let b = c .before .before .before .before .args .book .now in
-    let e : c .before .loop .s ≡ sheetsOf b = omega arith in
-    (sym (ap blockOf (fault-none b (rw e at (c .before .loop .inv .2)))), search needs)
+returns-2 c =
+    let head = c .before in
+    let b = c .before .before .before .before .args .book .now in
+    let e : head .loop .s ≡ sheetsOf b = omega arith in
+    (sym (ap blockOf (fault-none b (rw e at (head .loop .inv .2)))), search needs)
 
 pub fault-block-spec : {M : Type 1} → statement M
 fault-block-spec =
     tie.close
-    (tie.spec
-    Inv-loop
-    μ-loop
-    sheets-requires
-    loop-holds
-    blocks-of-requires
-    first-in-sheet-requires
-    add-result
-    returns
-    add-first
-    add-s
-    loop-less
-    loop-again
-    returns-2)
+    (tie.spec Inv-loop μ-loop sheets-requires loop-holds blocks-of-requires first-in-sheet-requires add-result returns add-first add-s loop-less
+    loop-again returns-2)

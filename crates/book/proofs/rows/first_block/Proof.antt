@@ -36,15 +36,4 @@ returns c = let e : c .before .loop .t ≡ c .before .before .before .args .s = 
     (rw e at (c .before .loop .inv .1), search needs)
 
 pub first-block-spec : {M : Type 1} → statement M
-first-block-spec =
-    tie.close
-    (tie.spec
-    Inv-loop
-    μ-loop
-    loop-holds
-    blocks-of-requires
-    add-n
-    add-t
-    loop-less
-    loop-again
-    returns)
+first-block-spec = tie.close (tie.spec Inv-loop μ-loop loop-holds blocks-of-requires add-n add-t loop-less loop-again returns)

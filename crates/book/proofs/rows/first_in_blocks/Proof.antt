@@ -40,15 +40,4 @@ returns-2 c = firstIn-end (search needs) (search needs) (search needs) (c .befor
 
 pub first-in-blocks-spec : {M : Type 1} → statement M
 first-in-blocks-spec =
-    tie.close
-    (tie.spec
-    Inv-loop
-    μ-loop
-    blocks-of-requires
-    loop-holds
-    wrong-block-requires
-    returns
-    add-q
-    loop-less
-    loop-again
-    returns-2)
+    tie.close (tie.spec Inv-loop μ-loop blocks-of-requires loop-holds wrong-block-requires returns add-q loop-less loop-again returns-2)

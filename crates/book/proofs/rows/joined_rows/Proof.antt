@@ -61,20 +61,5 @@ returns c = let e : c .before .loop .i ≡ 127 = omega arith in rw e at (c .befo
 pub joined-rows-spec : {M : Type 1} → statement M
 joined-rows-spec =
     tie.close
-    (tie.spec
-    Inv-loop
-    μ-loop
-    loop-holds
-    mul-at
-    shared-slice-read-word-of
-    add-word-of
-    shared-slice-read-word-of-2
-    add-word-of-2
-    shared-slice-read-word-of-3
-    add-word-of-3
-    shared-slice-read-word-of-4
-    word-of-requires
-    add-i
-    loop-less
-    loop-again
-    returns)
+    (tie.spec Inv-loop μ-loop loop-holds mul-at shared-slice-read-word-of add-word-of shared-slice-read-word-of-2 add-word-of-2
+    shared-slice-read-word-of-3 add-word-of-3 shared-slice-read-word-of-4 word-of-requires add-i loop-less loop-again returns)

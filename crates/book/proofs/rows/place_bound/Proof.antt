@@ -24,7 +24,9 @@ shared-slice-read-result c = search needs
 
 returns : tie.Need-returns
 unfolding placeBound
-returns c = let k = c .before .before .before .before .before in
+returns c =
+    let at = c .before .before .before .before .before in
+    let k = at in
     let b = k .args .h .now in
     let p : k .args .j < widthOf b (k .args .s) = omega arith in
     let v = values-range b (k .pre .1) _ (column-inside b (k .pre .1) (k .args .s) (k .pre .2) _ p) in

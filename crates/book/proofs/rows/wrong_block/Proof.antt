@@ -22,7 +22,9 @@ any-wrong-requires : tie.Need-any-wrong-requires
 any-wrong-requires c κs = search needs
 
 returns : tie.Need-returns
-returns c = let k = c .before .before .before .before .before in
+returns c =
+    let at = c .before .before .before .before .before in
+    let k = at in
     let m = k .args .m in
     block-seen (k .args .book .now) _ (k .args .s) (k .args .q) (k .args .first) (m .w) (m .x) (m .y) (m .z) _ _ _ (k .pre .0) (k .pre .1)
     (c .before .before .before .block .ensures .0) (c .before .before .rows .ensures .0) (c .before .used-rows .ensures .0) (c .any-wrong .ensures)

@@ -21,13 +21,21 @@ loop-holds : tie.Need-loop-holds Inv-loop μ-loop
 loop-holds c = (columns-none _ _, omega arith)
 
 column-requires : tie.Need-column-requires Inv-loop μ-loop
-column-requires c κs = let a = at-sheet _ (c .before .before .before .before .pre .0) _ (c .before .before .before .before .pre .1) in (head-there a, eight a, omega (arith, width-most a .1, c .before .before .width .ensures .0, c .loop-test .taken))
+column-requires c κs =
+    let start = c .before .before .before .before in
+    let p = start .pre in
+    let a = at-sheet _ (p .0) _ (p .1) in
+    (head-there a, eight a, omega (arith, width-most a .1, c .before .before .width .ensures .0, c .loop-test .taken))
 
 cast-out : tie.Need-cast-out Inv-loop μ-loop
 cast-out c = search needs
 
 shl-out : tie.Need-shl-out Inv-loop μ-loop
-shl-out c = let a = at-sheet _ (c .before .before .before .before .before .pre .0) _ (c .before .before .before .before .before .pre .1) in omega (arith, c .column .ensures .0, column-below a _ (let l : c .before .before .loop .j < widthOf (c .before .before .before .before .before .args .book .now) (c .before .before .before .before .before .args .s) = omega (arith, c .before .before .before .width .ensures .0, c .before .loop-test .taken) in l))
+shl-out c =
+    let start = c .before .before .before .before .before in
+    let p = start .pre in
+    let a = at-sheet _ (p .0) _ (p .1) in
+    omega (arith, c .column .ensures .0, column-below a _ (let l : c .before .before .loop .j < widthOf (start .args .book .now) (start .args .s) = omega (arith, c .before .before .before .width .ensures .0, c .before .loop-test .taken) in l))
 
 add-j : tie.Need-add-j Inv-loop μ-loop
 add-j c = search needs
@@ -36,25 +44,18 @@ loop-less : tie.Need-loop-less Inv-loop μ-loop
 loop-less c = search needs
 
 loop-again : tie.Need-loop-again Inv-loop μ-loop
-loop-again c = let a = at-sheet _ (c .before .before .before .before .before .pre .0) _ (c .before .before .before .before .before .pre .1) in
-    let l : c .before .before .loop .j < widthOf (c .before .before .before .before .before .args .book .now) (c .before .before .before .before .before .args .s) = omega (arith, c .before .before .before .width .ensures .0, c .before .loop-test .taken) in
-    (columns-more (c .before .before .loop .inv .0) (c .column .ensures .0) (omega (arith, c .column .ensures .0, column-below a _ l)), omega (arith, c .before .loop-test .taken))
+loop-again c =
+    let turn = c .before in
+    let head = turn .before in
+    let start = head .before .before .before in
+    let p = start .pre in
+    let a = at-sheet _ (p .0) _ (p .1) in
+    let l : head .loop .j < widthOf (start .args .book .now) (start .args .s) = omega (arith, c .before .before .before .width .ensures .0, turn .loop-test .taken) in
+    (columns-more (head .loop .inv .0) (c .column .ensures .0) (omega (arith, c .column .ensures .0, column-below a _ l)), omega (arith, turn .loop-test .taken))
 
 returns : tie.Need-returns Inv-loop μ-loop
 returns c = columns-end (omega (arith, c .before .before .width .ensures .0, c .loop-test .left, c .before .loop .inv .1)) (c .before .loop .inv .0)
 
 pub columns-of-spec : {M : Type 1} → statement M
 columns-of-spec =
-    tie.close
-    (tie.spec
-    Inv-loop
-    μ-loop
-    width-requires
-    loop-holds
-    column-requires
-    cast-out
-    shl-out
-    add-j
-    loop-less
-    loop-again
-    returns)
+    tie.close (tie.spec Inv-loop μ-loop width-requires loop-holds column-requires cast-out shl-out add-j loop-less loop-again returns)

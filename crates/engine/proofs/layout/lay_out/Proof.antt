@@ -24,7 +24,10 @@ mul-first : tie.Need-mul-first Inv-loop μ-loop
 mul-first c = search needs
 
 element-write-first : tie.Need-element-write-first Inv-loop μ-loop
-element-write-first c = let l : c .before .loop .s < sheetsOf (c .before .before .before .before .args .book .now) = omega (arith, c .before .before .sheets .ensures .0, c .loop-test .taken) in eight-sheets _ (c .before .before .before .before .pre .0) _ l
+element-write-first c =
+    let start = c .before .before .before .before in
+    let l : c .before .loop .s < sheetsOf (start .args .book .now) = omega (arith, c .before .before .sheets .ensures .0, c .loop-test .taken) in
+    eight-sheets _ (start .pre .0) _ l
 
 columns-of-requires : tie.Need-columns-of-requires Inv-loop μ-loop
 columns-of-requires c κs = search needs
@@ -33,16 +36,28 @@ mul-mask : tie.Need-mul-mask Inv-loop μ-loop
 mul-mask c = search needs
 
 element-write-mask : tie.Need-element-write-mask Inv-loop μ-loop
-element-write-mask c = let l : c .before .before .loop .s < sheetsOf (c .before .before .before .before .before .args .book .now) = omega (arith, c .before .before .before .sheets .ensures .0, c .before .loop-test .taken) in eight-sheets _ (c .before .before .before .before .before .pre .0) _ l
+element-write-mask c =
+    let start = c .before .before .before .before .before in
+    let l : c .before .before .loop .s < sheetsOf (start .args .book .now) = omega (arith, c .before .before .before .sheets .ensures .0, c .before .loop-test .taken) in
+    eight-sheets _ (start .pre .0) _ l
 
 blocks-of-requires : tie.Need-blocks-of-requires Inv-loop μ-loop
-blocks-of-requires c κs = let l : c .before .before .loop .s < sheetsOf (c .before .before .before .before .before .args .book .now) = omega (arith, c .before .before .before .sheets .ensures .0, c .before .loop-test .taken) in (head-length _ (c .before .before .before .before .before .pre .0), eight-sheets _ (c .before .before .before .before .before .pre .0) _ l)
+blocks-of-requires c κs =
+    let start = c .before .before .before .before .before in
+    let p = start .pre in
+    let l : c .before .before .loop .s < sheetsOf (start .args .book .now) = omega (arith, c .before .before .before .sheets .ensures .0, c .before .loop-test .taken) in
+    (head-length _ (p .0), eight-sheets _ (p .0) _ l)
 
 mul-at : tie.Need-mul-at Inv-loop μ-loop
 mul-at c = search needs
 
 add-at : tie.Need-add-at Inv-loop μ-loop
-add-at c = let l : c .before .before .before .loop .s < sheetsOf (c .before .before .before .before .before .before .args .book .now) = omega (arith, c .before .before .before .before .sheets .ensures .0, c .before .before .loop-test .taken) in let k : c .before .before .before .loop .at + 512 * c .blocks-of .result ≤ 16896 = rw (c .before .before .before .loop .inv .2, c .blocks-of .ensures .0) (rows-end _ (c .before .before .before .before .before .before .pre .0) _ l) in search (needs, k)
+add-at c =
+    let head = c .before .before .before in
+    let start = head .before .before .before in
+    let l : head .loop .s < sheetsOf (start .args .book .now) = omega (arith, c .before .before .before .before .sheets .ensures .0, c .before .before .loop-test .taken) in
+    let k : head .loop .at + 512 * c .blocks-of .result ≤ 16896 = rw (head .loop .inv .2, c .blocks-of .ensures .0) (rows-end _ (start .pre .0) _ l) in
+    search (needs, k)
 
 add-s : tie.Need-add-s Inv-loop μ-loop
 add-s c = search needs
@@ -51,7 +66,16 @@ loop-less : tie.Need-loop-less Inv-loop μ-loop
 loop-less c = search needs
 
 loop-again : tie.Need-loop-again Inv-loop μ-loop
-loop-again c = let l : c .before .before .before .loop .s < sheetsOf (c .before .before .before .before .before .before .args .book .now) = omega (arith, c .before .before .before .before .sheets .ensures .0, c .before .before .loop-test .taken) in (laid-more (c .before .before .before .loop .inv .0) (eight-sheets _ (c .before .before .before .before .before .before .pre .0) _ l) (c .before .before .before .loop .inv .2) (c .before .columns-of .ensures), omega (arith, c .before .before .loop-test .taken), rw (c .before .before .before .loop .inv .2, c .blocks-of .ensures .0) (sym (next-byte _ (c .before .before .before .before .before .before .pre .0) _)))
+loop-again c =
+    let turn = c .before .before in
+    let head = turn .before in
+    let start = head .before .before .before in
+    let p = start .pre in
+    let l : head .loop .s < sheetsOf (start .args .book .now) = omega (arith, c .before .before .before .before .sheets .ensures .0, turn .loop-test .taken) in (
+      laid-more (head .loop .inv .0) (eight-sheets _ (p .0) _ l) (head .loop .inv .2) (c .before .columns-of .ensures),
+      omega (arith, turn .loop-test .taken),
+      rw (head .loop .inv .2, c .blocks-of .ensures .0) (sym (next-byte _ (p .0) _)),
+    )
 
 returns : tie.Need-returns Inv-loop μ-loop
 returns c = laid-end (omega (arith, c .before .before .sheets .ensures .0, c .loop-test .left, c .before .loop .inv .1)) (c .before .loop .inv .0)
@@ -59,20 +83,5 @@ returns c = laid-end (omega (arith, c .before .before .sheets .ensures .0, c .lo
 pub lay-out-spec : {M : Type 1} → statement M
 lay-out-spec =
     tie.close
-    (tie.spec
-    Inv-loop
-    μ-loop
-    sheets-requires
-    loop-holds
-    mul-first
-    element-write-first
-    columns-of-requires
-    mul-mask
-    element-write-mask
-    blocks-of-requires
-    mul-at
-    add-at
-    add-s
-    loop-less
-    loop-again
-    returns)
+    (tie.spec Inv-loop μ-loop sheets-requires loop-holds mul-first element-write-first columns-of-requires mul-mask element-write-mask
+    blocks-of-requires mul-at add-at add-s loop-less loop-again returns)

@@ -37,14 +37,5 @@ returns-5 c = λ L d. sym (refusal-other _ L _ (c .before .before .before .if1 .
 pub refusal-spec : {M : Type 1} → statement M
 refusal-spec =
     tie.close
-    (tie.spec
-    shared-slice-read-kind
-    refused-narrow-requires
-    returns
-    refused-mark-requires
-    returns-2
-    refused-back-requires
-    returns-3
-    refused-finish-requires
-    returns-4
-    returns-5)
+    (tie.spec shared-slice-read-kind refused-narrow-requires returns refused-mark-requires returns-2 refused-back-requires returns-3
+    refused-finish-requires returns-4 returns-5)

@@ -24,21 +24,20 @@ returns-2 : tie.Need-returns-2
 returns-2 c = λ L k d. sym (refusal-back _ L _ k ∙ rw (sym (c .before .before .before .before .some-byte .ensures) ∙ c .before .before .before .if1 .left, eq-eqb _ _ (sym (c .before .wide .ensures .0) ∙ c .if2 .taken)) refl)
 
 returns-3 : tie.Need-returns-3
-returns-3 c = λ L k d. let q : depth L < argument (c .before .before .before .before .before .before .before .before .args .order .now) = omega (arith, c .before .before .wide .ensures .0, c .if3 .taken) in
-    sym (refusal-back _ L _ k ∙ rw (sym (c .before .before .before .before .before .some-byte .ensures) ∙ c .before .before .before .before .if1 .left, ne-eqb _ _ (λ (e : argument (c .before .before .before .before .before .before .before .before .args .order .now) ≡ 0). c .before .if2 .left (c .before .before .wide .ensures .0 ∙ e)), lt-ltb _ _ q) refl)
+returns-3 c =
+    let at-wide = c .before .before in
+    let at-some-byte = at-wide .before .before .before in
+    let start = at-some-byte .before .before .before in
+    λ L k d. let q : depth L < argument (start .args .order .now) = omega (arith, at-wide .wide .ensures .0, c .if3 .taken) in
+    sym (refusal-back _ L _ k ∙ rw (sym (at-some-byte .some-byte .ensures) ∙ c .before .before .before .before .if1 .left, ne-eqb _ _ (λ (e : argument (start .args .order .now) ≡ 0). c .before .if2 .left (at-wide .wide .ensures .0 ∙ e)), lt-ltb _ _ q) refl)
 
 returns-4 : tie.Need-returns-4
-returns-4 c = λ L k d. let q : argument (c .before .before .before .before .before .before .before .before .args .order .now) ≤ depth L = omega (arith, c .before .before .wide .ensures .0, c .if3 .left) in
-    sym (refusal-back _ L _ k ∙ rw (sym (c .before .before .before .before .before .some-byte .ensures) ∙ c .before .before .before .before .if1 .left, ne-eqb _ _ (λ (e : argument (c .before .before .before .before .before .before .before .before .args .order .now) ≡ 0). c .before .if2 .left (c .before .before .wide .ensures .0 ∙ e)), le-ltb _ _ q) refl)
+returns-4 c =
+    let at-wide = c .before .before in
+    let at-some-byte = at-wide .before .before .before in
+    let start = at-some-byte .before .before .before in
+    λ L k d. let q : argument (start .args .order .now) ≤ depth L = omega (arith, at-wide .wide .ensures .0, c .if3 .left) in
+    sym (refusal-back _ L _ k ∙ rw (sym (at-some-byte .some-byte .ensures) ∙ c .before .before .before .before .if1 .left, ne-eqb _ _ (λ (e : argument (start .args .order .now) ≡ 0). c .before .if2 .left (at-wide .wide .ensures .0 ∙ e)), le-ltb _ _ q) refl)
 
 pub refused-back-spec : {M : Type 1} → statement M
-refused-back-spec =
-    tie.close
-    (tie.spec
-    some-byte-requires
-    returns
-    shared-slice-read-wide
-    wide-requires
-    returns-2
-    returns-3
-    returns-4)
+refused-back-spec = tie.close (tie.spec some-byte-requires returns shared-slice-read-wide wide-requires returns-2 returns-3 returns-4)

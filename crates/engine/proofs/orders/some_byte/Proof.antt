@@ -25,7 +25,9 @@ shared-slice-read-if1 : tie.Need-shared-slice-read-if1 Inv-loop μ-loop
 shared-slice-read-if1 c = search needs
 
 returns : tie.Need-returns Inv-loop μ-loop
-returns c = sym (bytes-some (c .before .before .before .before .args .k) (c .before .before .before .before .args .n) (c .before .before .before .before .args .order .now) (c .before .before .before .loop .i) (c .before .before .loop-test .taken) (c .if1 .taken))
+returns c =
+    let start = c .before .before .before .before in
+    sym (bytes-some (start .args .k) (start .args .n) (start .args .order .now) (c .before .before .before .loop .i) (c .before .before .loop-test .taken) (c .if1 .taken))
 
 add-i : tie.Need-add-i Inv-loop μ-loop
 add-i c = search needs
@@ -40,16 +42,4 @@ returns-2 : tie.Need-returns-2 Inv-loop μ-loop
 returns-2 c = let e : c .before .loop .i ≡ c .before .before .args .n = omega (arith, c .loop-test .left, c .before .loop .inv .1) in sym (bytes-none _ _ _ (rw e at (c .before .loop .inv .0)))
 
 pub some-byte-spec : {M : Type 1} → statement M
-some-byte-spec =
-    tie.close
-    (tie.spec
-    Inv-loop
-    μ-loop
-    loop-holds
-    add-if1
-    shared-slice-read-if1
-    returns
-    add-i
-    loop-less
-    loop-again
-    returns-2)
+some-byte-spec = tie.close (tie.spec Inv-loop μ-loop loop-holds add-if1 shared-slice-read-if1 returns add-i loop-less loop-again returns-2)

@@ -44,30 +44,61 @@ element-copy-out-revise : tie.Need-element-copy-out-revise Inv-loop μ-loop
 element-copy-out-revise c = search needs
 
 revise-requires : tie.Need-revise-requires Inv-loop μ-loop
-revise-requires c κs = let l = c .before .before .before .before .before .before .before .loop .inv .used _ (c .before .before .before .before .before .first-waiting .ensures .2) in
-    (at-laid _ (c .before .before .before .before .before .before .before .before .before .pre .0) (c .before .before .before .before .before .before .before .before .before .pre .1) _ l, c .before .before .before .before .before .before .before .loop .inv .sheet _ l, c .before .before .before .before .before .before .before .loop .inv .sized, c .before .before .before .before .before .before .before .loop .inv .store, record { at = λ e. c .before .before .before .before .before .before .before .loop .inv .carried _ l (inl e) })
+revise-requires c κs =
+    let at-first-waiting = c .before .before .before .before .before in
+    let head = at-first-waiting .before .before in
+    let start = head .before .before in
+    let p = start .pre in
+    let l = head .loop .inv .used _ (at-first-waiting .first-waiting .ensures .2) in
+    (at-laid _ (p .0) (p .1) _ l, head .loop .inv .sheet _ l, head .loop .inv .sized, head .loop .inv .store, record { at = λ e. head .loop .inv .carried _ l (inl e) })
 
 element-copy-out-if1 : tie.Need-element-copy-out-if1 Inv-loop μ-loop
 element-copy-out-if1 c = search needs
 
 returns : tie.Need-returns Inv-loop μ-loop
-returns c = going-failed _ (c .before .before .before .before .before .before .before .before .before .before .before .before .pre .0) (c .before .before .before .before .before .before .before .before .before .before .before .before .pre .1) (c .before .before .before .before .before .before .before .before .before .before .loop .inv) (c .before .before .before .before .before .before .before .before .first-waiting .ensures .2) (c .before .before .revise .ensures) (c .if1 .taken)
+returns c =
+    let at-first-waiting = c .before .before .before .before .before .before .before .before in
+    let head = at-first-waiting .before .before in
+    let start = head .before .before in
+    let p = start .pre in
+    going-failed _ (p .0) (p .1) (head .loop .inv) (at-first-waiting .first-waiting .ensures .2) (c .before .before .revise .ensures) (c .if1 .taken)
 
 others-requires : tie.Need-others-requires Inv-loop μ-loop
 others-requires c κs = search needs
 
 wake-requires : tie.Need-wake-requires Inv-loop μ-loop
-wake-requires c κs = (omega (arith, c .others .ensures .1, c .before .before .before .before .before .before .before .before .before .before .before .before .loop .inv .small), c .before .before .before .before .before .before .before .before .before .before .first-waiting .ensures .1, length-set (c .before .before .before .before .before .before .before .before .before .before .before .before .loop .changed) (c .before .before .before .before .before .before .before .before .before .before .first-waiting .result) 0 ∙ c .before .before .before .before .before .before .before .before .before .before .before .before .loop .inv .size, getD-set-same (c .before .before .before .before .before .before .before .before .before .before .before .before .loop .changed) (c .before .before .before .before .before .before .before .before .before .before .first-waiting .result) 0 0 (omega (arith, c .before .before .before .before .before .before .before .before .before .before .before .before .loop .inv .size, c .before .before .before .before .before .before .before .before .before .before .first-waiting .ensures .1)))
+wake-requires c κs =
+    let at-first-waiting = c .before .before .before .before .before .before .before .before .before .before in
+    let head = at-first-waiting .before .before in (
+      omega (arith, c .others .ensures .1, head .loop .inv .small),
+      at-first-waiting .first-waiting .ensures .1,
+      length-set (head .loop .changed) (at-first-waiting .first-waiting .result) 0 ∙ head .loop .inv .size,
+      getD-set-same (head .loop .changed) (at-first-waiting .first-waiting .result) 0 0 (omega (arith, head .loop .inv .size, at-first-waiting .first-waiting .ensures .1)),
+    )
 
 loop-less : tie.Need-loop-less Inv-loop μ-loop
-loop-less c = going-less _ (c .before .before .before .before .before .before .before .before .before .before .before .before .before .before .before .pre .0) (c .before .before .before .before .before .before .before .before .before .before .before .before .before .before .before .pre .1) (c .before .before .before .before .before .before .before .before .before .before .before .before .before .loop .inv) (c .before .before .before .before .before .before .before .before .before .before .before .first-waiting .ensures .2) (c .before .before .before .before .before .revise .ensures)
-    (subst⁻¹ (λ (t : ℕ). Cleared (c .before .before .before .before .before .before .before .before .before .before .before .before .before .loop .left) (c .before .others .result) t) (c .before .before .before .before .before .before .before .before .before .before .before .first-waiting .ensures .0) (c .before .others .ensures .0))
-    (search needs) (omega (arith, c .before .others .ensures .1, c .before .before .before .before .before .before .before .before .before .before .before .before .before .loop .inv .small)) (c .wake .ensures) (c .before .others .ensures .1)
+loop-less c =
+    let at-others = c .before in
+    let at-revise = at-others .before .before .before .before in
+    let at-first-waiting = at-revise .before .before .before .before .before .before in
+    let head = at-first-waiting .before .before in
+    let start = head .before .before in
+    let p = start .pre in
+    going-less _ (p .0) (p .1) (head .loop .inv) (at-first-waiting .first-waiting .ensures .2) (at-revise .revise .ensures)
+    (subst⁻¹ (λ (t : ℕ). Cleared (head .loop .left) (at-others .others .result) t) (at-first-waiting .first-waiting .ensures .0) (at-others .others .ensures .0))
+    (search needs) (omega (arith, at-others .others .ensures .1, head .loop .inv .small)) (c .wake .ensures) (at-others .others .ensures .1)
 
 loop-again : tie.Need-loop-again Inv-loop μ-loop
-loop-again c = going-on _ (c .before .before .before .before .before .before .before .before .before .before .before .before .before .before .before .pre .0) (c .before .before .before .before .before .before .before .before .before .before .before .before .before .before .before .pre .1) (c .before .before .before .before .before .before .before .before .before .before .before .before .before .loop .inv) (c .before .before .before .before .before .before .before .before .before .before .before .first-waiting .ensures .2) (c .before .before .before .before .before .revise .ensures)
-    (subst⁻¹ (λ (t : ℕ). Cleared (c .before .before .before .before .before .before .before .before .before .before .before .before .before .loop .left) (c .before .others .result) t) (c .before .before .before .before .before .before .before .before .before .before .before .first-waiting .ensures .0) (c .before .others .ensures .0))
-    (search needs) (omega (arith, c .before .others .ensures .1, c .before .before .before .before .before .before .before .before .before .before .before .before .before .loop .inv .small)) (c .wake .ensures)
+loop-again c =
+    let at-others = c .before in
+    let at-revise = at-others .before .before .before .before in
+    let at-first-waiting = at-revise .before .before .before .before .before .before in
+    let head = at-first-waiting .before .before in
+    let start = head .before .before in
+    let p = start .pre in
+    going-on _ (p .0) (p .1) (head .loop .inv) (at-first-waiting .first-waiting .ensures .2) (at-revise .revise .ensures)
+    (subst⁻¹ (λ (t : ℕ). Cleared (head .loop .left) (at-others .others .result) t) (at-first-waiting .first-waiting .ensures .0) (at-others .others .ensures .0))
+    (search needs) (omega (arith, at-others .others .ensures .1, head .loop .inv .small)) (c .wake .ensures)
 
 returns-2 : tie.Need-returns-2 Inv-loop μ-loop
 returns-2 c = going-done _ (c .before .before .before .pre .0) (c .before .before .before .pre .1) (c .before .loop .inv) (c .loop-test .left)
@@ -75,22 +106,5 @@ returns-2 c = going-done _ (c .before .before .before .pre .0) (c .before .befor
 pub propagate-spec : {M : Type 1} → statement M
 propagate-spec =
     tie.close
-    (tie.spec
-    Inv-loop
-    μ-loop
-    loop-holds
-    first-waiting-requires
-    mul-seen
-    array-read-seen
-    mul-changed
-    array-write-changed
-    mul-revise
-    element-copy-out-revise
-    revise-requires
-    element-copy-out-if1
-    returns
-    others-requires
-    wake-requires
-    loop-less
-    loop-again
-    returns-2)
+    (tie.spec Inv-loop μ-loop loop-holds first-waiting-requires mul-seen array-read-seen mul-changed array-write-changed mul-revise
+    element-copy-out-revise revise-requires element-copy-out-if1 returns others-requires wake-requires loop-less loop-again returns-2)

@@ -13,7 +13,10 @@ empty-requires : tie.Need-empty-requires
 empty-requires c κs = search needs
 
 returns-2 : tie.Need-returns-2
-returns-2 c = rw (c .empty .ensures .0, c .empty .ensures .1, c .empty .ensures .2) (settled-failed _ (c .before .before .before .before .before .before .before .before .before .before .before .pre .0) (rw (c .before .before .before .before .if1 .left) at (c .before .before .before .before .before .propagate .ensures)))
+returns-2 c =
+    let at-propagate = c .before .before .before .before .before in
+    let start = at-propagate .before .before .before .before .before .before in
+    rw (c .empty .ensures .0, c .empty .ensures .1, c .empty .ensures .2) (settled-failed _ (start .pre .0) (rw (c .before .before .before .before .if1 .left) at (at-propagate .propagate .ensures)))
 
 pub settle-spec : {M : Type 1} → statement M
 settle-spec = tie.close (tie.spec propagate-requires returns empty-requires returns-2)

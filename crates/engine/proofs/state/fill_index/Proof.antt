@@ -35,15 +35,4 @@ returns : tie.Need-returns Inv-loop μ-loop
 returns c = let e : c .before .loop .i ≡ 64 = omega (arith, c .loop-test .left, c .before .loop .inv .1) in rw e at (c .before .loop .inv .0)
 
 pub fill-index-spec : {M : Type 1} → statement M
-fill-index-spec =
-    tie.close
-    (tie.spec
-    Inv-loop
-    μ-loop
-    loop-holds
-    cast-index
-    element-write-index
-    add-i
-    loop-less
-    loop-again
-    returns)
+fill-index-spec = tie.close (tie.spec Inv-loop μ-loop loop-holds cast-index element-write-index add-i loop-less loop-again returns)

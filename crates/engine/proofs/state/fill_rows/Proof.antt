@@ -22,19 +22,38 @@ loop-holds : tie.Need-loop-holds Inv-loop μ-loop
 loop-holds c = (rows-none _ (c .before .before .pre .1) (c .before .before .pre .2), omega arith)
 
 rows-requires : tie.Need-rows-requires Inv-loop μ-loop
-rows-requires c κs = let l : c .before .loop .s < sheetsOf (c .before .before .before .before .args .book .now) = omega (arith, c .before .before .sheets .ensures .0, c .loop-test .taken) in (head-length _ (c .before .before .before .before .pre .0), eight-sheets _ (c .before .before .before .before .pre .0) _ l)
+rows-requires c κs =
+    let start = c .before .before .before .before in
+    let p = start .pre in
+    let l : c .before .loop .s < sheetsOf (start .args .book .now) = omega (arith, c .before .before .sheets .ensures .0, c .loop-test .taken) in
+    (head-length _ (p .0), eight-sheets _ (p .0) _ l)
 
 fill-words-requires : tie.Need-fill-words-requires Inv-loop μ-loop
-fill-words-requires c κs = let l : c .before .before .before .loop .s < sheetsOf (c .before .before .before .before .before .before .args .book .now) = omega (arith, c .before .before .before .before .sheets .ensures .0, c .before .before .loop-test .taken) in (eight-sheets _ (c .before .before .before .before .before .before .pre .0) _ l, omega (arith, c .before .rows .ensures .0, rows-few _ (c .before .before .before .before .before .before .pre .0) _ l), c .before .before .before .loop .inv .0 .words)
+fill-words-requires c κs =
+    let head = c .before .before .before in
+    let start = head .before .before .before in
+    let p = start .pre in
+    let l : head .loop .s < sheetsOf (start .args .book .now) = omega (arith, c .before .before .before .before .sheets .ensures .0, c .before .before .loop-test .taken) in
+    (eight-sheets _ (p .0) _ l, omega (arith, c .before .rows .ensures .0, rows-few _ (p .0) _ l), head .loop .inv .0 .words)
 
 add-limit : tie.Need-add-limit Inv-loop μ-loop
 add-limit c = search needs
 
 cast-limit : tie.Need-cast-limit Inv-loop μ-loop
-cast-limit c = let l : c .before .before .before .before .loop .s < sheetsOf (c .before .before .before .before .before .before .before .args .book .now) = omega (arith, c .before .before .before .before .before .sheets .ensures .0, c .before .before .before .loop-test .taken) in let k : c .before .before .rows .result ≤ 508 = omega (arith, c .before .before .rows .ensures .0, rows-few _ (c .before .before .before .before .before .before .before .pre .0) _ l) in search (needs, k)
+cast-limit c =
+    let at-rows = c .before .before in
+    let at-sheets = at-rows .before .before .before in
+    let start = at-sheets .before .before in
+    let l : c .before .before .before .before .loop .s < sheetsOf (start .args .book .now) = omega (arith, at-sheets .sheets .ensures .0, c .before .before .before .loop-test .taken) in
+    let k : at-rows .rows .result ≤ 508 = omega (arith, at-rows .rows .ensures .0, rows-few _ (start .pre .0) _ l) in
+    search (needs, k)
 
 element-write-limit : tie.Need-element-write-limit Inv-loop μ-loop
-element-write-limit c = let l : c .before .before .before .before .loop .s < sheetsOf (c .before .before .before .before .before .before .before .args .book .now) = omega (arith, c .before .before .before .before .before .sheets .ensures .0, c .before .before .before .loop-test .taken) in eight-sheets _ (c .before .before .before .before .before .before .before .pre .0) _ l
+element-write-limit c =
+    let at-sheets = c .before .before .before .before .before in
+    let start = at-sheets .before .before in
+    let l : c .before .before .before .before .loop .s < sheetsOf (start .args .book .now) = omega (arith, at-sheets .sheets .ensures .0, c .before .before .before .loop-test .taken) in
+    eight-sheets _ (start .pre .0) _ l
 
 add-s : tie.Need-add-s Inv-loop μ-loop
 add-s c = search needs
@@ -43,25 +62,24 @@ loop-less : tie.Need-loop-less Inv-loop μ-loop
 loop-less c = search needs
 
 loop-again : tie.Need-loop-again Inv-loop μ-loop
-loop-again c = let l : c .before .before .before .before .loop .s < sheetsOf (c .before .before .before .before .before .before .before .args .book .now) = omega (arith, c .before .before .before .before .before .sheets .ensures .0, c .before .before .before .loop-test .taken) in (rows-more (c .before .before .before .before .loop .inv .0) (eight-sheets _ (c .before .before .before .before .before .before .before .pre .0) _ l) (c .before .before .rows .ensures .0) (c .fill-words .ensures) refl, omega (arith, c .before .before .before .loop-test .taken))
+loop-again c =
+    let turn = c .before .before .before in
+    let head = turn .before in
+    let at-sheets = head .before in
+    let start = at-sheets .before .before in
+    let l : head .loop .s < sheetsOf (start .args .book .now) = omega (arith, at-sheets .sheets .ensures .0, turn .loop-test .taken) in (
+      rows-more (head .loop .inv .0) (eight-sheets _ (start .pre .0) _ l) (c .before .before .rows .ensures .0) (c .fill-words .ensures) refl,
+      omega (arith, turn .loop-test .taken),
+    )
 
 returns : tie.Need-returns Inv-loop μ-loop
-returns c = let e : c .before .loop .s ≡ sheetsOf (c .before .before .before .before .args .book .now) = omega (arith, c .before .before .sheets .ensures .0, c .loop-test .left, c .before .loop .inv .1) in rw e at (c .before .loop .inv .0)
+returns c =
+    let head = c .before in
+    let e : head .loop .s ≡ sheetsOf (c .before .before .before .before .args .book .now) = omega (arith, c .before .before .sheets .ensures .0, c .loop-test .left, head .loop .inv .1) in
+    rw e at (head .loop .inv .0)
 
 pub fill-rows-spec : {M : Type 1} → statement M
 fill-rows-spec =
     tie.close
-    (tie.spec
-    Inv-loop
-    μ-loop
-    sheets-requires
-    loop-holds
-    rows-requires
-    fill-words-requires
-    add-limit
-    cast-limit
-    element-write-limit
-    add-s
-    loop-less
-    loop-again
-    returns)
+    (tie.spec Inv-loop μ-loop sheets-requires loop-holds rows-requires fill-words-requires add-limit cast-limit element-write-limit add-s
+    loop-less loop-again returns)

@@ -45,17 +45,4 @@ returns c = let e : c .before .loop .w ≡ 8 = omega (arith, c .loop-test .left,
 
 pub fill-words-spec : {M : Type 1} → statement M
 fill-words-spec =
-    tie.close
-    (tie.spec
-    Inv-loop
-    μ-loop
-    loop-holds
-    full-word-requires
-    mul-live
-    add-live
-    mul-live-2
-    element-write-live
-    add-w
-    loop-less
-    loop-again
-    returns)
+    tie.close (tie.spec Inv-loop μ-loop loop-holds full-word-requires mul-live add-live mul-live-2 element-write-live add-w loop-less loop-again returns)

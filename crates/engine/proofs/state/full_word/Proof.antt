@@ -35,16 +35,4 @@ returns-3 : tie.Need-returns-3
 returns-3 c = word-none (omega (arith, c .if2 .left))
 
 pub full-word-spec : {M : Type 1} → statement M
-full-word-spec =
-    tie.close
-    (tie.spec
-    mul-if1
-    add-if1
-    returns
-    mul-if2
-    mul-result
-    add-result
-    sub-result
-    shr-result
-    returns-2
-    returns-3)
+full-word-spec = tie.close (tie.spec mul-if1 add-if1 returns mul-if2 mul-result add-result sub-result shr-result returns-2 returns-3)

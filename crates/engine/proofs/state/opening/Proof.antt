@@ -25,19 +25,26 @@ places-below-requires : tie.Need-places-below-requires
 places-below-requires c κs = omega (arith, c .sheets .ensures .0, sheets-most _ (accepted-right _ (c .before .before .before .before .before .before .before .before .before .pre .0) .head))
 
 settle-requires : tie.Need-settle-requires
-settle-requires c κs = (c .before .before .before .before .before .before .before .before .before .before .before .before .before .before .pre .0, c .before .before .before .before .before .before .before .before .before .before .before .before .before .before .pre .1, full-ready _ (c .before .before .before .before .before .before .before .before .before .before .before .before .before .before .pre .0) (c .before .before .before .before .before .before .before .before .before .before .before .fill-domains .ensures) (c .before .before .before .before .before .before .before .before .fill-rows .ensures) (c .before .before .before .before .before .before .fill-index .ensures) (c .before .before .before .before .places-below .ensures ∙ ap placesBelow (c .before .before .before .before .before .sheets .ensures .0)))
+settle-requires c κs =
+    let at-sheets = c .before .before .before .before .before in
+    let at-fill-index = at-sheets .before in
+    let at-fill-rows = at-fill-index .before .before in
+    let at-fill-domains = at-fill-rows .before .before .before in
+    let start = at-fill-domains .before .before .before in
+    let p = start .pre in (
+      p .0,
+      p .1,
+      full-ready _ (p .0) (at-fill-domains .fill-domains .ensures) (at-fill-rows .fill-rows .ensures) (at-fill-index .fill-index .ensures) (c .before .before .before .before .places-below .ensures ∙ ap placesBelow (at-sheets .sheets .ensures .0)),
+    )
 
 returns : tie.Need-returns
-returns c = record { holds = opening-state _ (c .before .before .before .before .before .before .before .before .before .before .before .before .before .before .before .pre .0) (c .before .before .before .before .before .before .before .before .before .before .before .before .fill-domains .ensures) (c .before .before .before .before .before .before .before .before .before .fill-rows .ensures) (c .before .before .before .before .before .before .before .fill-index .ensures) (c .settle .ensures); store = c .settle .ensures .store; sized = c .settle .ensures .sized }
+returns c =
+    let at-fill-index = c .before .before .before .before .before .before .before in
+    let at-fill-rows = at-fill-index .before .before in
+    let at-fill-domains = at-fill-rows .before .before .before in
+    let start = at-fill-domains .before .before .before in
+    record { holds = opening-state _ (start .pre .0) (at-fill-domains .fill-domains .ensures) (at-fill-rows .fill-rows .ensures) (at-fill-index .fill-index .ensures) (c .settle .ensures); store = c .settle .ensures .store; sized = c .settle .ensures .sized }
 
 pub opening-spec : {M : Type 1} → statement M
 opening-spec =
-    tie.close
-    (tie.spec
-    fill-domains-requires
-    fill-rows-requires
-    fill-index-requires
-    sheets-requires
-    places-below-requires
-    settle-requires
-    returns)
+    tie.close (tie.spec fill-domains-requires fill-rows-requires fill-index-requires sheets-requires places-below-requires settle-requires returns)

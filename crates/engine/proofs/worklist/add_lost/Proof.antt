@@ -43,15 +43,5 @@ returns c = let e : c .before .loop .f ≡ 8 = omega (arith, c .loop-test .left,
 pub add-lost-spec : {M : Type 1} → statement M
 add-lost-spec =
     tie.close
-    (tie.spec
-    Inv-loop
-    μ-loop
-    loop-holds
-    mul-changed
-    element-copy-out-changed
-    mul-changed-2
-    element-write-changed
-    add-f
-    loop-less
-    loop-again
+    (tie.spec Inv-loop μ-loop loop-holds mul-changed element-copy-out-changed mul-changed-2 element-write-changed add-f loop-less loop-again
     returns)

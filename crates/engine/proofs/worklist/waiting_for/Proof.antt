@@ -39,15 +39,4 @@ returns c = let e : c .before .loop .f ≡ 8 = omega (arith, c .loop-test .left,
 
 pub waiting-for-spec : {M : Type 1} → statement M
 waiting-for-spec =
-    tie.close
-    (tie.spec
-    Inv-loop
-    μ-loop
-    loop-holds
-    mul-waits
-    element-copy-out-waits
-    waits-requires
-    add-f
-    loop-less
-    loop-again
-    returns)
+    tie.close (tie.spec Inv-loop μ-loop loop-holds mul-waits element-copy-out-waits waits-requires add-f loop-less loop-again returns)

@@ -26,17 +26,11 @@ shl-result : tie.Need-shl-result
 shl-result c = search needs
 
 returns-2 : tie.Need-returns-2
-returns-2 c = woken-some (c .before .before .before .before .pre .0) (c .before .before .before .before .pre .2) (c .before .before .before .before .pre .3) (c .before .before .before .before .pre .1) (c .before .add-lost .ensures) (c .waiting-for .ensures) refl
+returns-2 c =
+    let start = c .before .before .before .before in
+    let p = start .pre in
+    woken-some (p .0) (p .2) (p .3) (p .1) (c .before .add-lost .ensures) (c .waiting-for .ensures) refl
 
 pub wake-spec : {M : Type 1} → statement M
 wake-spec =
-    tie.close
-    (tie.spec
-    returns
-    add-lost-requires
-    mul-changed
-    element-write-changed
-    waiting-for-requires
-    cast-result
-    shl-result
-    returns-2)
+    tie.close (tie.spec returns add-lost-requires mul-changed element-write-changed waiting-for-requires cast-result shl-result returns-2)

@@ -1,18 +1,13 @@
-use native.Mathlib.Omega.{arith}
 use borrow.Author.Needs.{needs}
-use Rattle.runs.proofs.Promises.{right-list}
 use Rattle.runs.proofs.Runs.{ran-compares}
 use Rattle.runs.proofs.pair.run_both.Statement.{statement}
 use Rattle.runs.proofs.pair.run_both.Tie as tie
 
-lay-out-requires : tie.Need-lay-out-requires
-lay-out-requires c κs = search needs
-
 run-orders-requires : tie.Need-run-orders-requires
-run-orders-requires c κs = (c .before .before .before .before .before .before .before .before .before .before .before .pre .0 .book, c .before .before .before .lay-out .ensures, omega (arith, right-list _ (c .before .before .before .before .before .before .before .before .before .before .before .pre .0 .list)), omega (arith, c .before .before .before .before .before .before .before .before .before .before .before .pre .0 .enough))
+run-orders-requires c κs = search needs
 
 run-orders-requires-2 : tie.Need-run-orders-requires-2
-run-orders-requires-2 c κs = (c .before .before .before .before .before .before .before .before .before .before .before .before .before .before .before .before .before .pre .0 .book, c .before .before .before .before .before .before .before .before .before .lay-out .ensures, omega (arith, right-list _ (c .before .before .before .before .before .before .before .before .before .before .before .before .before .before .before .before .before .pre .1 .list)), omega (arith, c .before .before .before .before .before .before .before .before .before .before .before .before .before .before .before .before .before .pre .1 .enough))
+run-orders-requires-2 c κs = search needs
 
 same-length : tie.Need-same-length
 same-length c = search needs
@@ -21,15 +16,7 @@ same-length-2 : tie.Need-same-length-2
 same-length-2 c = search needs
 
 returns : tie.Need-returns
-returns c = ran-compares (c .before .before .before .before .before .before .before .before .before .before .run-orders .ensures) (c .before .before .before .before .run-orders2 .ensures)
+returns c = ran-compares (c .before .before .before .before .before .before .before .before .run-orders .ensures) (c .before .before .before .before .run-orders2 .ensures)
 
 pub run-both-spec : {M : Type 1} → statement M
-run-both-spec =
-    tie.close
-    (tie.spec
-    lay-out-requires
-    run-orders-requires
-    run-orders-requires-2
-    same-length
-    same-length-2
-    returns)
+run-both-spec = tie.close (tie.spec run-orders-requires run-orders-requires-2 same-length same-length-2 returns)

@@ -30,7 +30,9 @@ returns-3 : tie.Need-returns-3
 returns-3 c = space-short _ _ _ (c .before .before .before .before .check .ensures) (c .before .before .before .if1 .left) (c .before .before .wrong-list .ensures) (c .before .if2 .left) (omega (arith, c .if3 .taken))
 
 run-right-requires : tie.Need-run-right-requires
-run-right-requires c κs = record { book = rw (← c .before .before .before .before .before .check .ensures) (c .before .before .before .before .if1 .left); list = sym (c .before .before .before .wrong-list .ensures) ∙ c .before .before .if2 .left; enough = omega (arith, c .before .if3 .left) }
+run-right-requires c κs =
+    let at-check = c .before .before .before .before .before in
+    record { book = rw (← at-check .check .ensures) (c .before .before .before .before .if1 .left); list = sym (c .before .before .before .wrong-list .ensures) ∙ c .before .before .if2 .left; enough = omega (arith, c .before .if3 .left) }
 
 same-length : tie.Need-same-length
 same-length c = search needs

@@ -1,26 +1,43 @@
-use mathlib.Core.Path.{_≡_, refl}
-use Prim.Native.Nat.{_*_, _+_, _-_, _/_, _≤_}
+use mathlib.Core.Path.{_∙_, _≡_, refl}
+use mathlib.Core.Logic.{⊎-elim}
+use mathlib.Core.List.{List}
+use Prim.Native.Nat.{_*_, _+_, _-_, _/_, _<_, _≤_, ℕ}
 use native.Mathlib.Omega.{arith}
-use lib.ListN.{length}
+use lib.Dec.{eqb}
+use lib.ListN.{drop, length, take}
 use borrow.Author.Needs.{needs}
+use Rattle.model.specs.Tests.{oneIf}
+use Rattle.engine.specs.Holds.{SomeSession, Stepped}
 use Rattle.engine.proofs.Lists.{order-part}
-use Rattle.engine.proofs.Steps.{back-holds, back-room, mark-holds, mark-room, narrow-holds, narrow-inside, step-back, step-mark, step-narrow}
+use Rattle.engine.proofs.Steps.{back-holds, back-room, mark-holds, mark-room, narrow-holds, narrow-inside, step-back, step-mark, step-narrow, step-other, step-refused}
 use Rattle.runs.specs.Runs.{RanTo}
-use Rattle.runs.proofs.Runs.{back-wide, depth-small, more-finished, more-refused, more-stepped, only-finish, opened-long, opened-ran, ran-few, ran-from, ran-room, refuses-small, saved-state}
+use Rattle.runs.proofs.Promises.{right-list}
+use Rattle.runs.proofs.Runs.{back-wide, counts-none, counts-one, depth-small, more, opened-long, opened-ran, ran-few, ran-from, ran-room, refuses-small}
 use Rattle.runs.proofs.run.run_orders.Statement.{statement}
 use Rattle.runs.proofs.run.run_orders.Tie as tie
 
 abbrev Inv-loop : tie.InvT-loop
-Inv-loop book first mask orders answers₀ n s₀ accepted₀ i₀ answers s accepted i = RanTo book orders answers₀ i s accepted answers × (i ≤ n) × (72 * n + 72 ≤ length answers₀)
+Inv-loop book orders answers₀ first mask s₀ accepted₀ i₀ answers s accepted i =
+    RanTo book orders answers₀ i s accepted answers × (i ≤ length orders / 8) × (72 * (length orders / 8) + 72 ≤ length answers₀)
 
 abbrev μ-loop : tie.MeasureT-loop
-μ-loop book first mask orders answers₀ n s₀ accepted₀ i₀ answers s accepted i = n - i
+μ-loop book orders answers₀ first mask s₀ accepted₀ i₀ answers s accepted i = length orders / 8 - i
+
+lay-out-requires : tie.Need-lay-out-requires Inv-loop μ-loop
+lay-out-requires c κs = search needs
 
 opened-requires : tie.Need-opened-requires Inv-loop μ-loop
-opened-requires c κs = search needs
+opened-requires c κs =
+    let start = c .before .before .before .before .before .before .before .before .before in
+    let p = start .pre in
+    (p .book, c .before .before .before .lay-out .ensures, omega (arith, p .enough))
 
 loop-holds : tie.Need-loop-holds Inv-loop μ-loop
-loop-holds c = (opened-ran _ _ _ (omega (arith, c .before .before .before .before .before .before .before .pre .3)) (c .before .before .opened .ensures .0) (c .before .before .opened .ensures .1), omega arith, omega (arith, c .before .before .before .before .before .before .before .pre .3, opened-long _ (c .before .before .before .before .before .before .before .args .orders .now) _ (omega (arith, c .before .before .before .before .before .before .before .pre .3)) (c .before .before .opened .ensures .0) (c .before .before .opened .ensures .1)))
+loop-holds c =
+    let o = c .before .before .opened .ensures in
+    let start = c .before .before .before .before .before .before .before .before .before .before .before .before in
+    let p = start .pre .enough in
+    (opened-ran _ _ _ (omega (arith, p)) (o .0) (o .1), omega arith, omega (arith, p, opened-long _ (start .args .orders .now) _ (omega (arith, p)) (o .0) (o .1)))
 
 mul-order : tie.Need-mul-order Inv-loop μ-loop
 mul-order c = search needs
@@ -43,45 +60,63 @@ part-order-end c = search needs
 refusal-requires : tie.Need-refusal-requires Inv-loop μ-loop
 refusal-requires c κs = search needs
 
+-- ---- an order's turn, once its refusal is known: the function's start, the layout, the loop's head, and the order's bytes
+abbrev start : tie.After-refusal Inv-loop μ-loop → tie.Start Inv-loop μ-loop
+start c = c .before .before .before .before .before .before .before .before .before .before .before .before .before .before .before .before .before
+
+abbrev laid : tie.After-refusal Inv-loop μ-loop → tie.After-lay-out Inv-loop μ-loop
+laid c = c .before .before .before .before .before .before .before .before .before .before .before
+
+abbrev head : tie.After-refusal Inv-loop μ-loop → tie.At-loop Inv-loop μ-loop
+head c = c .before .before .before .before
+
+abbrev bytes : tie.After-refusal Inv-loop μ-loop → List ℕ
+bytes c = let i = head c .loop .i in take (8 * i + 8 - 8 * i) (drop (8 * i) (start c .args .orders .now))
+
+turn : (c : tie.After-refusal Inv-loop μ-loop)
+    → (head c .loop .i + 1 ≤ 256) × (72 * (head c .loop .i + 1) + 72 ≤ length (head c .loop .answers)) × (c .refusal .result < 256) × (head c .loop .s .depth ≤ 16)
+turn c =
+    let test = c .before .before .before .loop-test .taken in
+    let l = head c .loop in
+    let h = l .inv .0 in (
+      omega (arith, test, right-list _ (start c .pre .list)),
+      omega (arith, test, l .inv .2, ran-room _ _ _ h (omega (arith, l .inv .1, l .inv .2))),
+      refuses-small _ (h .holds) (c .refusal .ensures),
+      depth-small (h .holds),
+    )
+
+some : (c : tie.After-refusal Inv-loop μ-loop) → SomeSession (start c .args .book .now) (head c .loop .s)
+some c = record { stands = _; holds = head c .loop .inv .0 .holds }
+
 add-i : tie.Need-add-i Inv-loop μ-loop
-add-i c = search needs
-
-show-requires : tie.Need-show-requires Inv-loop μ-loop
-show-requires c κs = (c .before .before .before .before .before .before .before .before .before .before .before .before .before .before .pre .0, c .before .before .before .before .before .before .before .before .before .before .before .before .before .before .pre .1, record { stands = _; is = c .before .before .before .before .before .before .loop .inv .0 .holds .current }, omega (arith, c .before .before .before .before .before .loop-test .taken, c .before .before .before .before .before .before .before .before .before .before .before .before .before .before .pre .2), omega (arith, c .before .before .before .before .before .loop-test .taken, c .before .before .before .before .before .before .loop .inv .2, ran-room _ _ _ (c .before .before .before .before .before .before .loop .inv .0) (omega (arith, c .before .before .before .before .before .before .loop .inv .1, c .before .before .before .before .before .before .loop .inv .2))), omega (arith, refuses-small _ (c .before .before .before .before .before .before .loop .inv .0 .holds) (c .before .before .refusal .ensures)), omega (arith, depth-small (c .before .before .before .before .before .before .loop .inv .0 .holds)))
-
-loop-less : tie.Need-loop-less Inv-loop μ-loop
-loop-less c = search needs
-
-loop-again : tie.Need-loop-again Inv-loop μ-loop
-loop-again c = (more-refused _ _ _ (order-part (c .before .before .before .before .before .before .before .before .before .before .before .before .before .before .before .before .before .args .orders .now) (c .before .before .before .before .before .before .before .before .before .loop .i) _ _ refl refl) (omega (arith, c .before .before .before .before .before .before .before .before .loop-test .taken, c .before .before .before .before .before .before .before .before .before .loop .inv .2)) (c .before .before .before .before .before .before .before .before .before .loop .inv .0) (c .before .before .before .before .before .refusal .ensures) (c .before .before .before .before .if1 .taken) (c .before .before .show .ensures), omega (arith, c .before .before .before .before .before .before .before .before .loop-test .taken), c .before .before .before .before .before .before .before .before .before .loop .inv .2)
+add-i c = let l = turn c .0 in search (needs, l)
 
 add-accepted : tie.Need-add-accepted Inv-loop μ-loop
-add-accepted c = let l = ran-few _ _ _ (c .before .before .before .before .before .loop .inv .0) in search (needs, l)
+add-accepted c =
+    let l = turn (c .before) .0 in
+    let k = ran-few _ _ _ (head (c .before) .loop .inv .0) in
+    search (needs, l, k)
 
+shared-slice-read-if2 : tie.Need-shared-slice-read-if2 Inv-loop μ-loop
+shared-slice-read-if2 c = search needs
+
+-- ---- a narrow
 shared-slice-read-wide : tie.Need-shared-slice-read-wide Inv-loop μ-loop
 shared-slice-read-wide c = search needs
 
 wide-requires : tie.Need-wide-requires Inv-loop μ-loop
 wide-requires c κs = search needs
 
-shared-slice-read-if2 : tie.Need-shared-slice-read-if2 Inv-loop μ-loop
-shared-slice-read-if2 c = search needs
-
 mask-of-requires : tie.Need-mask-of-requires Inv-loop μ-loop
 mask-of-requires c κs = search needs
 
 narrowed-requires : tie.Need-narrowed-requires Inv-loop μ-loop
-narrowed-requires c κs = (c .before .before .before .before .before .before .before .before .before .before .before .before .before .before .before .before .before .before .pre .0, c .before .before .before .before .before .before .before .before .before .before .before .before .before .before .before .before .before .before .pre .1, rw (c .before .before .before .wide .ensures .0) (narrow-inside _ _ _ (c .before .before .before .before .before .before .refusal .ensures) (c .before .before .before .before .before .if1 .left) (record { stands = _; holds = c .before .before .before .before .before .before .before .before .before .before .loop .inv .0 .holds }) (c .before .if2 .taken)), record { stands = _; is = c .before .before .before .before .before .before .before .before .before .before .loop .inv .0 .holds .current })
+narrowed-requires c κs =
+    let t = c .before .before .before .before .before .before .before .before in
+    let inside = narrow-inside _ _ _ (t .refusal .ensures) (c .before .before .before .before .before .before .before .if1 .taken) (some t) (c .before .before .before .before .before .if2 .taken) in
+    (start t .pre .book, laid t .lay-out .ensures, rw (c .before .wide .ensures .0) inside, record { stands = _; is = some t .holds .current })
 
-show-requires-2 : tie.Need-show-requires-2 Inv-loop μ-loop
-show-requires-2 c κs = (c .before .before .before .before .before .before .before .before .before .before .before .before .before .before .before .before .before .before .before .before .pre .0, c .before .before .before .before .before .before .before .before .before .before .before .before .before .before .before .before .before .before .before .before .pre .1, record { stands = _; is = c .before .narrowed .ensures _ (c .before .before .before .before .before .before .before .before .before .before .before .before .loop .inv .0 .holds .current) }, omega (arith, c .before .before .before .before .before .before .before .before .before .before .before .loop-test .taken, c .before .before .before .before .before .before .before .before .before .before .before .before .before .before .before .before .before .before .before .before .pre .2), omega (arith, c .before .before .before .before .before .before .before .before .before .before .before .loop-test .taken, c .before .before .before .before .before .before .before .before .before .before .before .before .loop .inv .2, ran-room _ _ _ (c .before .before .before .before .before .before .before .before .before .before .before .before .loop .inv .0) (omega (arith, c .before .before .before .before .before .before .before .before .before .before .before .before .loop .inv .1, c .before .before .before .before .before .before .before .before .before .before .before .before .loop .inv .2))), omega arith, omega (arith, depth-small (c .before .before .before .before .before .before .before .before .before .before .before .before .loop .inv .0 .holds)))
-
-loop-less-2 : tie.Need-loop-less-2 Inv-loop μ-loop
-loop-less-2 c = search needs
-
-loop-again-2 : tie.Need-loop-again-2 Inv-loop μ-loop
-loop-again-2 c = (more-stepped _ _ _ (order-part (c .before .before .before .before .before .before .before .before .before .before .before .before .before .before .before .before .before .before .before .before .before .before .before .args .orders .now) (c .before .before .before .before .before .before .before .before .before .before .before .before .before .before .before .loop .i) _ _ refl refl) (omega (arith, c .before .before .before .before .before .before .before .before .before .before .before .before .before .before .loop-test .taken, c .before .before .before .before .before .before .before .before .before .before .before .before .before .before .before .loop .inv .2)) (c .before .before .before .before .before .before .before .before .before .before .before .before .before .before .before .loop .inv .0) (c .before .before .before .before .before .before .before .before .before .before .before .refusal .ensures) (c .before .before .before .before .before .before .before .before .before .before .if1 .left) (λ q. omega (arith, q, c .before .before .before .before .before .before .if2 .taken)) (step-narrow _ _ _ (c .before .before .before .before .before .before .before .before .before .before .before .refusal .ensures) (c .before .before .before .before .before .before .before .before .before .before .if1 .left) _ (c .before .before .before .before .before .before .if2 .taken) (c .before .before .before .before .before .before .before .before .wide .ensures .0) (c .before .before .before .before .before .mask-of .ensures) (narrow-holds _ _ (c .before .before .before .before .narrowed .ensures) refl refl)) (c .before .before .show2 .ensures), omega (arith, c .before .before .before .before .before .before .before .before .before .before .before .before .before .before .loop-test .taken), c .before .before .before .before .before .before .before .before .before .before .before .before .before .before .before .loop .inv .2)
-
+-- ---- a mark
 shared-slice-read-if3 : tie.Need-shared-slice-read-if3 Inv-loop μ-loop
 shared-slice-read-if3 c = search needs
 
@@ -89,112 +124,109 @@ mul-st : tie.Need-mul-st Inv-loop μ-loop
 mul-st c = search needs
 
 element-set-from-st : tie.Need-element-set-from-st Inv-loop μ-loop
-element-set-from-st c = mark-room _ _ _ (c .before .before .before .before .before .before .before .refusal .ensures) (c .before .before .before .before .before .before .if1 .left) (record { stands = _; holds = c .before .before .before .before .before .before .before .before .before .before .before .loop .inv .0 .holds }) (c .if3 .taken)
+element-set-from-st c =
+    let t = c .before .before .before .before .before in
+    mark-room _ _ _ (t .refusal .ensures) (c .before .before .before .before .if1 .taken) (some t) (c .if3 .taken)
 
 add-s : tie.Need-add-s Inv-loop μ-loop
 add-s c = search needs
 
-add-show : tie.Need-add-show Inv-loop μ-loop
-add-show c = search needs
-
-show-requires-3 : tie.Need-show-requires-3 Inv-loop μ-loop
-show-requires-3 c κs = (c .before .before .before .before .before .before .before .before .before .before .before .before .before .before .before .before .before .before .before .before .pre .0, c .before .before .before .before .before .before .before .before .before .before .before .before .before .before .before .before .before .before .before .before .pre .1, record { stands = _; is = c .before .before .before .before .before .before .before .before .before .before .before .before .loop .inv .0 .holds .current }, omega (arith, c .before .before .before .before .before .before .before .before .before .before .before .loop-test .taken, c .before .before .before .before .before .before .before .before .before .before .before .before .before .before .before .before .before .before .before .before .pre .2), omega (arith, c .before .before .before .before .before .before .before .before .before .before .before .loop-test .taken, c .before .before .before .before .before .before .before .before .before .before .before .before .loop .inv .2, ran-room _ _ _ (c .before .before .before .before .before .before .before .before .before .before .before .before .loop .inv .0) (omega (arith, c .before .before .before .before .before .before .before .before .before .before .before .before .loop .inv .1, c .before .before .before .before .before .before .before .before .before .before .before .before .loop .inv .2))), omega arith, omega (arith, depth-small (c .before .before .before .before .before .before .before .before .before .before .before .before .loop .inv .0 .holds)))
-
-loop-less-3 : tie.Need-loop-less-3 Inv-loop μ-loop
-loop-less-3 c = search needs
-
-loop-again-3 : tie.Need-loop-again-3 Inv-loop μ-loop
-loop-again-3 c = (more-stepped _ _ _ (order-part (c .before .before .before .before .before .before .before .before .before .before .before .before .before .before .before .before .before .before .before .before .before .before .before .args .orders .now) (c .before .before .before .before .before .before .before .before .before .before .before .before .before .before .before .loop .i) _ _ refl refl) (omega (arith, c .before .before .before .before .before .before .before .before .before .before .before .before .before .before .loop-test .taken, c .before .before .before .before .before .before .before .before .before .before .before .before .before .before .before .loop .inv .2)) (c .before .before .before .before .before .before .before .before .before .before .before .before .before .before .before .loop .inv .0) (c .before .before .before .before .before .before .before .before .before .before .before .refusal .ensures) (c .before .before .before .before .before .before .before .before .before .before .if1 .left) (λ q. omega (arith, q, c .before .before .before .before .if3 .taken)) (step-mark _ _ _ (c .before .before .before .before .before .before .before .before .before .before .before .refusal .ensures) (c .before .before .before .before .before .before .before .before .before .before .if1 .left) _ (c .before .before .before .before .if3 .taken) (mark-holds _ _ refl refl refl (mark-room _ _ _ (c .before .before .before .before .before .before .before .before .before .before .before .refusal .ensures) (c .before .before .before .before .before .before .before .before .before .before .if1 .left) (record { stands = _; holds = c .before .before .before .before .before .before .before .before .before .before .before .before .before .before .before .loop .inv .0 .holds }) (c .before .before .before .before .if3 .taken)))) (c .before .before .show3 .ensures), omega (arith, c .before .before .before .before .before .before .before .before .before .before .before .before .before .before .loop-test .taken), c .before .before .before .before .before .before .before .before .before .before .before .before .before .before .before .loop .inv .2)
-
+-- ---- a back
 shared-slice-read-if4 : tie.Need-shared-slice-read-if4 Inv-loop μ-loop
 shared-slice-read-if4 c = search needs
 
-sub-t : tie.Need-sub-t Inv-loop μ-loop
-sub-t c = let q = back-wide (c .before .before .before .before .before .before .wide .ensures .0) (back-room _ _ _ (c .before .before .before .before .before .before .before .before .before .refusal .ensures) (c .before .before .before .before .before .before .before .before .if1 .left) (record { stands = _; holds = c .before .before .before .before .before .before .before .before .before .before .before .before .before .loop .inv .0 .holds }) (c .if4 .taken)) in search (needs, q .0)
+shared-slice-read-wide-2 : tie.Need-shared-slice-read-wide-2 Inv-loop μ-loop
+shared-slice-read-wide-2 c = search needs
 
-mul-t : tie.Need-mul-t Inv-loop μ-loop
-mul-t c = search needs
+wide-requires-2 : tie.Need-wide-requires-2 Inv-loop μ-loop
+wide-requires-2 c κs = search needs
 
-element-copy-out-t : tie.Need-element-copy-out-t Inv-loop μ-loop
-element-copy-out-t c = let q = back-wide (c .before .before .before .before .before .before .wide .ensures .0) (back-room _ _ _ (c .before .before .before .before .before .before .before .before .before .refusal .ensures) (c .before .before .before .before .before .before .before .before .if1 .left) (record { stands = _; holds = c .before .before .before .before .before .before .before .before .before .before .before .before .before .loop .inv .0 .holds }) (c .if4 .taken)) in omega (arith, q .0, q .1, q .2)
+back : (c : tie.After-wide2 Inv-loop μ-loop) → let d = head (c .before .before .before .before .before .before .before .before .before) .loop .s .depth in (1 ≤ c .wide2 .result) × (c .wide2 .result ≤ d) × (d ≤ 16)
+back c =
+    let t = c .before .before .before .before .before .before .before .before .before in
+    back-wide (c .wide2 .ensures .0) (back-room _ _ _ (t .refusal .ensures) (c .before .before .before .before .before .before .before .before .if1 .taken) (some t) (c .before .before .if4 .taken))
 
-sub-s : tie.Need-sub-s Inv-loop μ-loop
-sub-s c = let q = back-wide (c .before .before .before .before .before .before .before .wide .ensures .0) (back-room _ _ _ (c .before .before .before .before .before .before .before .before .before .before .refusal .ensures) (c .before .before .before .before .before .before .before .before .before .if1 .left) (record { stands = _; holds = c .before .before .before .before .before .before .before .before .before .before .before .before .before .before .loop .inv .0 .holds }) (c .before .if4 .taken)) in search (needs, q .0)
+sub-m : tie.Need-sub-m Inv-loop μ-loop
+sub-m c = let q = back c in search (needs, q .0)
 
-sub-show : tie.Need-sub-show Inv-loop μ-loop
-sub-show c = let q = back-wide (c .before .before .before .before .before .before .before .before .wide .ensures .0) (back-room _ _ _ (c .before .before .before .before .before .before .before .before .before .before .before .refusal .ensures) (c .before .before .before .before .before .before .before .before .before .before .if1 .left) (record { stands = _; holds = c .before .before .before .before .before .before .before .before .before .before .before .before .before .before .before .loop .inv .0 .holds }) (c .before .before .if4 .taken)) in search (needs, q .0)
+mul-s : tie.Need-mul-s Inv-loop μ-loop
+mul-s c = search needs
 
-show-requires-4 : tie.Need-show-requires-4 Inv-loop μ-loop
-show-requires-4 c κs = let q = back-wide (c .before .before .before .before .before .before .before .before .wide .ensures .0) (back-room _ _ _ (c .before .before .before .before .before .before .before .before .before .before .before .refusal .ensures) (c .before .before .before .before .before .before .before .before .before .before .if1 .left) (record { stands = _; holds = c .before .before .before .before .before .before .before .before .before .before .before .before .before .before .before .loop .inv .0 .holds }) (c .before .before .if4 .taken)) in (c .before .before .before .before .before .before .before .before .before .before .before .before .before .before .before .before .before .before .before .before .before .before .before .pre .0, c .before .before .before .before .before .before .before .before .before .before .before .before .before .before .before .before .before .before .before .before .before .before .before .pre .1, saved-state _ (c .before .before .before .before .before .before .before .before .before .before .before .before .before .before .before .loop .inv .0 .holds) (q .0) (q .1), omega (arith, c .before .before .before .before .before .before .before .before .before .before .before .before .before .before .loop-test .taken, c .before .before .before .before .before .before .before .before .before .before .before .before .before .before .before .before .before .before .before .before .before .before .before .pre .2), omega (arith, c .before .before .before .before .before .before .before .before .before .before .before .before .before .before .loop-test .taken, c .before .before .before .before .before .before .before .before .before .before .before .before .before .before .before .loop .inv .2, ran-room _ _ _ (c .before .before .before .before .before .before .before .before .before .before .before .before .before .before .before .loop .inv .0) (omega (arith, c .before .before .before .before .before .before .before .before .before .before .before .before .before .before .before .loop .inv .1, c .before .before .before .before .before .before .before .before .before .before .before .before .before .before .before .loop .inv .2))), omega arith, omega (arith, q .1, q .2))
+element-copy-out-s : tie.Need-element-copy-out-s Inv-loop μ-loop
+element-copy-out-s c = let q = back c in omega (arith, q .0, q .1, q .2)
 
-loop-less-4 : tie.Need-loop-less-4 Inv-loop μ-loop
-loop-less-4 c = search needs
+-- ---- its answer
+stepped : (c : tie.Joined1 Inv-loop μ-loop)
+    → let t = c .before in Stepped (start t .args .book .now) (head t .loop .s) (bytes t) (c .if1 .s) × (c .if1 .accepted ≡ head t .loop .accepted + oneIf (eqb (t .refusal .result) 0))
+stepped c =
+    let f = c .before .refusal .ensures in
+    let h = some (c .before) in
+    ⊎-elim (λ w. (
+      rw (w .9) (step-narrow _ _ _ f (w .0 .taken) _ (w .2 .taken) (w .6 .ensures .0) (w .7 .ensures) (narrow-holds _ _ (w .8 .ensures) refl refl)),
+      w .10 ∙ counts-one _ (w .0 .taken),
+    ))
+    (⊎-elim (λ w. (
+      rw (w .5) (step-mark _ _ _ f (w .0 .taken) _ (w .4 .taken) (mark-holds _ _ refl refl refl (mark-room _ _ _ f (w .0 .taken) h (w .4 .taken)))),
+      w .6 ∙ counts-one _ (w .0 .taken),
+    ))
+    (⊎-elim (λ w. (
+      let q = back-wide (w .8 .ensures .0) (back-room _ _ _ f (w .0 .taken) h (w .6 .taken)) in
+          rw (w .10) (step-back _ _ _ f (w .0 .taken) _ (w .6 .taken) (w .8 .ensures .0) (back-holds _ _ refl refl refl (q .0) (q .1))),
+      w .11 ∙ counts-one _ (w .0 .taken),
+    ))
+    (⊎-elim (λ w. (rw (w .7) (step-other _ _ _ f (w .0 .taken) (w .2 .left) (w .4 .left) (w .6 .left)), w .8 ∙ counts-one _ (w .0 .taken)))
+    (λ w. (rw (w .1) (step-refused _ _ _ f (w .0 .left)), w .2 ∙ counts-none _ (w .0 .left))))))
+    (c .if1 .came)
 
-loop-again-4 : tie.Need-loop-again-4 Inv-loop μ-loop
-loop-again-4 c = let q = back-wide (c .before .before .before .before .before .before .before .before .before .before .before .wide .ensures .0) (back-room _ _ _ (c .before .before .before .before .before .before .before .before .before .before .before .before .before .before .refusal .ensures) (c .before .before .before .before .before .before .before .before .before .before .before .before .before .if1 .left) (record { stands = _; holds = c .before .before .before .before .before .before .before .before .before .before .before .before .before .before .before .before .before .before .loop .inv .0 .holds }) (c .before .before .before .before .before .if4 .taken)) in (more-stepped _ _ _ (order-part (c .before .before .before .before .before .before .before .before .before .before .before .before .before .before .before .before .before .before .before .before .before .before .before .before .before .before .args .orders .now) (c .before .before .before .before .before .before .before .before .before .before .before .before .before .before .before .before .before .before .loop .i) _ _ refl refl) (omega (arith, c .before .before .before .before .before .before .before .before .before .before .before .before .before .before .before .before .before .loop-test .taken, c .before .before .before .before .before .before .before .before .before .before .before .before .before .before .before .before .before .before .loop .inv .2)) (c .before .before .before .before .before .before .before .before .before .before .before .before .before .before .before .before .before .before .loop .inv .0) (c .before .before .before .before .before .before .before .before .before .before .before .before .before .before .refusal .ensures) (c .before .before .before .before .before .before .before .before .before .before .before .before .before .if1 .left) (λ e. omega (arith, e, c .before .before .before .before .before .if4 .taken)) (step-back _ _ _ (c .before .before .before .before .before .before .before .before .before .before .before .before .before .before .refusal .ensures) (c .before .before .before .before .before .before .before .before .before .before .before .before .before .if1 .left) _ (c .before .before .before .before .before .if4 .taken) (c .before .before .before .before .before .before .before .before .before .before .before .wide .ensures .0) (back-holds _ _ refl refl refl (q .0) (q .1))) (c .before .before .show4 .ensures), omega (arith, c .before .before .before .before .before .before .before .before .before .before .before .before .before .before .before .before .before .loop-test .taken), c .before .before .before .before .before .before .before .before .before .before .before .before .before .before .before .before .before .before .loop .inv .2)
+show-order-requires : tie.Need-show-order-requires Inv-loop μ-loop
+show-order-requires c κs =
+    let t = c .before .before .before .before .before in
+    let q = turn t in
+    let h = stepped (c .before .before .before .before) .0 _ (some t .holds) in (
+      start t .pre .book,
+      laid t .lay-out .ensures,
+      record { stands = _; is = h .current },
+      q .0,
+      q .1,
+      q .2,
+      omega (arith, depth-small h),
+      search needs,
+    )
 
-show-finish-requires : tie.Need-show-finish-requires Inv-loop μ-loop
-show-finish-requires c κs = (c .before .before .before .before .before .before .before .before .before .before .before .before .before .before .before .before .before .before .before .before .before .before .pre .0, c .before .before .before .before .before .before .before .before .before .before .before .before .before .before .before .before .before .before .before .before .before .before .pre .1, record { stands = _; is = c .before .before .before .before .before .before .before .before .before .before .before .before .before .before .loop .inv .0 .holds .current }, omega (arith, c .before .before .before .before .before .before .before .before .before .before .before .before .before .loop-test .taken, c .before .before .before .before .before .before .before .before .before .before .before .before .before .before .before .before .before .before .before .before .before .before .pre .2), omega (arith, c .before .before .before .before .before .before .before .before .before .before .before .before .before .loop-test .taken, c .before .before .before .before .before .before .before .before .before .before .before .before .before .before .loop .inv .2, ran-room _ _ _ (c .before .before .before .before .before .before .before .before .before .before .before .before .before .before .loop .inv .0) (omega (arith, c .before .before .before .before .before .before .before .before .before .before .before .before .before .before .loop .inv .1, c .before .before .before .before .before .before .before .before .before .before .before .before .before .before .loop .inv .2))), omega (arith, depth-small (c .before .before .before .before .before .before .before .before .before .before .before .before .before .before .loop .inv .0 .holds)))
+loop-less : tie.Need-loop-less Inv-loop μ-loop
+loop-less c = search needs
 
-loop-less-5 : tie.Need-loop-less-5 Inv-loop μ-loop
-loop-less-5 c = search needs
+loop-again : tie.Need-loop-again Inv-loop μ-loop
+loop-again c =
+    let t = c .before .before .before .before .before .before .before .before in
+    let l = head t .loop in
+    let s = stepped (c .before .before .before .before .before .before .before) in
+    let test = t .before .before .before .loop-test .taken in (
+      more _ _ _ (order-part (start t .args .orders .now) (l .i) _ _ refl refl) (omega (arith, test, l .inv .2)) (l .inv .0) (t .refusal .ensures)
+          (s .0) (s .1) (c .before .before .show-order .ensures),
+      omega (arith, test),
+      l .inv .2,
+    )
 
-loop-again-5 : tie.Need-loop-again-5 Inv-loop μ-loop
-loop-again-5 c = (more-finished _ _ _ (order-part (c .before .before .before .before .before .before .before .before .before .before .before .before .before .before .before .before .before .before .before .before .before .before .before .before .before .args .orders .now) (c .before .before .before .before .before .before .before .before .before .before .before .before .before .before .before .before .before .loop .i) _ _ refl refl) (omega (arith, c .before .before .before .before .before .before .before .before .before .before .before .before .before .before .before .before .loop-test .taken, c .before .before .before .before .before .before .before .before .before .before .before .before .before .before .before .before .before .loop .inv .2)) (c .before .before .before .before .before .before .before .before .before .before .before .before .before .before .before .before .before .loop .inv .0) (c .before .before .before .before .before .before .before .before .before .before .before .before .before .refusal .ensures) (c .before .before .before .before .before .before .before .before .before .before .before .before .if1 .left) (only-finish _ (c .before .before .before .before .before .before .before .before .before .before .before .before .before .before .before .before .before .loop .inv .0 .holds) (c .before .before .before .before .before .before .before .before .before .before .before .before .before .refusal .ensures) (c .before .before .before .before .before .before .before .before .before .before .before .before .if1 .left) (c .before .before .before .before .before .before .before .before .if2 .left) (c .before .before .before .before .before .before .if3 .left) (c .before .before .before .before .if4 .left)) (c .before .before .show-finish .ensures), omega (arith, c .before .before .before .before .before .before .before .before .before .before .before .before .before .before .before .before .loop-test .taken), c .before .before .before .before .before .before .before .before .before .before .before .before .before .before .before .before .before .loop .inv .2)
-
+-- ---- the end
 same-length : tie.Need-same-length Inv-loop μ-loop
-same-length c = let l = ran-room _ _ _ (c .before .loop .inv .0) (omega (arith, c .before .loop .inv .1, c .before .loop .inv .2)) in search (needs, l)
+same-length c =
+    let l = c .before .loop in
+    let e = ran-room _ _ _ (l .inv .0) (omega (arith, l .inv .1, l .inv .2)) in
+    search (needs, e)
 
 returns : tie.Need-returns Inv-loop μ-loop
-returns c = let e : c .before .loop .i ≡ length (c .before .before .before .before .before .before .before .before .before .args .orders .now) / 8 = omega (arith, c .loop-test .left, c .before .loop .inv .1) in ran-from _ _ _ (omega (arith, c .before .before .before .before .before .before .before .before .before .pre .3)) (c .before .before .before .before .opened .ensures .0) (c .before .before .before .before .opened .ensures .1) (rw e at (c .before .loop .inv .0))
+returns c =
+    let l = c .before .loop in
+    let start = c .before .before .before .before .before .before .before .before .before .before .before .before .before .before in
+    let o = c .before .before .before .before .opened .ensures in
+    let e : l .i ≡ length (start .args .orders .now) / 8 = omega (arith, c .loop-test .left, l .inv .1) in
+    ran-from _ _ _ (omega (arith, start .pre .enough)) (o .0) (o .1) (rw e at (l .inv .0))
 
 pub run-orders-spec : {M : Type 1} → statement M
 run-orders-spec =
     tie.close
-    (tie.spec
-    Inv-loop
-    μ-loop
-    opened-requires
-    loop-holds
-    mul-order
-    mul-order-2
-    add-order
-    sub-order
-    part-order-start
-    part-order-end
-    refusal-requires
-    add-i
-    show-requires
-    loop-less
-    loop-again
-    add-accepted
-    shared-slice-read-wide
-    wide-requires
-    shared-slice-read-if2
-    mask-of-requires
-    narrowed-requires
-    show-requires-2
-    loop-less-2
-    loop-again-2
-    shared-slice-read-if3
-    mul-st
-    element-set-from-st
-    add-s
-    add-show
-    show-requires-3
-    loop-less-3
-    loop-again-3
-    shared-slice-read-if4
-    sub-t
-    mul-t
-    element-copy-out-t
-    sub-s
-    sub-show
-    show-requires-4
-    loop-less-4
-    loop-again-4
-    show-finish-requires
-    loop-less-5
-    loop-again-5
-    same-length
-    returns)
+    (tie.spec Inv-loop μ-loop lay-out-requires opened-requires loop-holds mul-order mul-order-2 add-order sub-order part-order-start part-order-end
+    refusal-requires add-i add-accepted shared-slice-read-if2 shared-slice-read-wide wide-requires mask-of-requires narrowed-requires
+    shared-slice-read-if3 mul-st element-set-from-st add-s shared-slice-read-if4 shared-slice-read-wide-2 wide-requires-2 sub-m mul-s
+    element-copy-out-s show-order-requires loop-less loop-again same-length returns)

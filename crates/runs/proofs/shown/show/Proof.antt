@@ -5,7 +5,10 @@ use Rattle.runs.proofs.shown.show.Statement.{statement}
 use Rattle.runs.proofs.shown.show.Tie as tie
 
 write-state-requires : tie.Need-write-state-requires
-write-state-requires c κs = (record { accepted = c .before .before .before .before .before .pre .0; masks = layout-masks (c .before .before .before .before .before .pre .1); shows = state-shows (c .before .before .before .before .before .pre .2 .is) (c .before .before .before .before .before .pre .0); few = c .before .before .before .before .before .pre .3; room = c .before .before .before .before .before .pre .4 }, c .before .before .before .before .before .pre .5, c .before .before .before .before .before .pre .6)
+write-state-requires c κs =
+    let start = c .before .before .before .before .before in
+    let p = start .pre in
+    (record { accepted = p .0; masks = layout-masks (p .1); shows = state-shows (p .2 .is) (p .0); few = p .3; room = p .4 }, p .5, p .6)
 
 same-length : tie.Need-same-length
 same-length c = search needs

@@ -8,7 +8,10 @@ finish-requires : tie.Need-finish-requires
 finish-requires c κs = search needs
 
 write-finish-requires : tie.Need-write-finish-requires
-write-finish-requires c κs = (record { accepted = c .before .before .before .before .before .before .before .before .pre .0; masks = layout-masks (c .before .before .before .before .before .before .before .before .pre .1); shows = state-shows (c .before .before .before .before .before .before .before .before .pre .2 .is) (c .before .before .before .before .before .before .before .before .pre .0); few = c .before .before .before .before .before .before .before .before .pre .3; room = c .before .before .before .before .before .before .before .before .pre .4 }, c .before .before .before .before .before .before .before .before .pre .5)
+write-finish-requires c κs =
+    let start = c .before .before .before .before .before .before .before .before in
+    let p = start .pre in
+    (record { accepted = p .0; masks = layout-masks (p .1); shows = state-shows (p .2 .is) (p .0); few = p .3; room = p .4 }, p .5)
 
 same-length : tie.Need-same-length
 same-length c = search needs

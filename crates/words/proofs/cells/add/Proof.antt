@@ -34,13 +34,5 @@ returns c = sets-joined _ _ _ _ _ (c .before .before .before .before .before .be
 pub add-spec : {M : Type 1} → statement M
 add-spec =
     tie.close
-    (tie.spec
-    element-copy-out-seen
-    element-write-seen
-    element-copy-out-seen-2
-    element-write-seen-2
-    element-copy-out-seen-3
-    element-write-seen-3
-    element-copy-out-seen-4
-    element-write-seen-4
-    returns)
+    (tie.spec element-copy-out-seen element-write-seen element-copy-out-seen-2 element-write-seen-2 element-copy-out-seen-3 element-write-seen-3
+    element-copy-out-seen-4 element-write-seen-4 returns)

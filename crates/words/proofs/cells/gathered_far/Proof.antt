@@ -36,7 +36,11 @@ add-with-row-2 : tie.Need-add-with-row-2 Inv-loop μ-loop
 add-with-row-2 c = let e = c .before .before .loop .inv .1 .at _ (c .lowest .ensures .2) in let k = c .before .before .before .before .pre .1 .there _ e in search (needs, k)
 
 with-row-requires : tie.Need-with-row-requires Inv-loop μ-loop
-with-row-requires c κs = let e = c .before .before .loop .inv .1 .at _ (c .lowest .ensures .2) in record { there = c .before .before .before .before .pre .1 .there _ e; value = λ j l. c .before .before .before .before .pre .1 .value _ j e l }
+with-row-requires c κs =
+    let start = c .before .before .before .before in
+    let p = start .pre in
+    let e = c .before .before .loop .inv .1 .at _ (c .lowest .ensures .2) in
+    record { there = p .1 .there _ e; value = λ j l. p .1 .value _ j e l }
 
 without-lowest-requires : tie.Need-without-lowest-requires Inv-loop μ-loop
 without-lowest-requires c κs = search needs
@@ -45,7 +49,13 @@ loop-less : tie.Need-loop-less Inv-loop μ-loop
 loop-less c = search needs
 
 loop-again : tie.Need-loop-again Inv-loop μ-loop
-loop-again c = let t = subst⁻¹ (λ (t : ℕ). Cleared (c .before .before .before .before .loop .left) (c .without-lowest .result) t) (c .before .before .lowest .ensures .0) (c .without-lowest .ensures .0) in (of-row _ _ _ _ _ _ _ _ _ _ (passed-turn (c .before .before .before .before .loop .inv .1) t) (c .before .before .before .before .loop .inv .0) (c .before .with-row .ensures .0) (c .before .with-row .ensures .1) (c .before .with-row .ensures .2) (c .before .with-row .ensures .3), part-cleared t (c .before .before .before .before .loop .inv .1))
+loop-again c =
+    let at-with-row = c .before in
+    let head = at-with-row .before .before .before in
+    let t = subst⁻¹ (λ (t : ℕ). Cleared (head .loop .left) (c .without-lowest .result) t) (c .before .before .lowest .ensures .0) (c .without-lowest .ensures .0) in (
+      of-row _ _ _ _ _ _ _ _ _ _ (passed-turn (head .loop .inv .1) t) (head .loop .inv .0) (at-with-row .with-row .ensures .0) (at-with-row .with-row .ensures .1) (at-with-row .with-row .ensures .2) (at-with-row .with-row .ensures .3),
+      part-cleared t (head .loop .inv .1),
+    )
 
 returns : tie.Need-returns Inv-loop μ-loop
 returns c = of-same _ (λ i. ap (λ (m : ℕ). passed (c .before .before .before .args .word) m i) (c .loop-test .left) ∙ passed-end (c .before .before .before .args .word) i) (c .before .loop .inv .0)
@@ -53,18 +63,5 @@ returns c = of-same _ (λ i. ap (λ (m : ℕ). passed (c .before .before .before
 pub gathered-far-spec : {M : Type 1} → statement M
 gathered-far-spec =
     tie.close
-    (tie.spec
-    Inv-loop
-    μ-loop
-    loop-holds
-    lowest-requires
-    cast-r
-    add-r
-    add-with-row
-    mul-with-row
-    add-with-row-2
-    with-row-requires
-    without-lowest-requires
-    loop-less
-    loop-again
-    returns)
+    (tie.spec Inv-loop μ-loop loop-holds lowest-requires cast-r add-r add-with-row mul-with-row add-with-row-2 with-row-requires
+    without-lowest-requires loop-less loop-again returns)

@@ -28,25 +28,23 @@ past-run-requires : tie.Need-past-run-requires
 past-run-requires c κs = search needs
 
 gathered-near-set-requires-2 : tie.Need-gathered-near-set-requires-2
-gathered-near-set-requires-2 c κs = record { at = λ k e. c .before .before .before .before .before .before .before .before .pre .0 .at k (and-l (bit k (c .before .before .before .before .before .before .before .before .args .word)) _ (sym (c .past-run .ensures .at k) ∙ e)) }
+gathered-near-set-requires-2 c κs =
+    let start = c .before .before .before .before .before .before .before .before in
+    record { at = λ k e. start .pre .0 .at k (and-l (bit k (start .args .word)) _ (sym (c .past-run .ensures .at k) ∙ e)) }
 
 add-requires-3 : tie.Need-add-requires-3
 add-requires-3 c κs = search needs
 
 returns-2 : tie.Need-returns-2
-returns-2 c = (of-join _ (run-joined (c .before .before .before .before .before .before .before .before .run-of .ensures .1) (c .before .before .past-run .ensures)) (of-added (c .before .before .before .before .before .gathered-run .ensures) (c .before .before .before .before .add2 .ensures)) (of-added (c .before .gathered-near-set2 .ensures) (c .add3 .ensures)), c .add3 .ensures .small)
+returns-2 c =
+    let at-gathered-run = c .before .before .before .before .before in
+    let at-run-of = at-gathered-run .before .before .before in (
+      of-join _ (run-joined (at-run-of .run-of .ensures .1) (c .before .before .past-run .ensures)) (of-added (at-gathered-run .gathered-run .ensures) (c .before .before .before .before .add2 .ensures)) (of-added (c .before .gathered-near-set2 .ensures) (c .add3 .ensures)),
+      c .add3 .ensures .small,
+    )
 
 pub gathered-near-spec : {M : Type 1} → statement M
 gathered-near-spec =
     tie.close
-    (tie.spec
-    run-of-requires
-    gathered-near-set-requires
-    add-requires
-    returns
-    gathered-run-requires
-    add-requires-2
-    past-run-requires
-    gathered-near-set-requires-2
-    add-requires-3
-    returns-2)
+    (tie.spec run-of-requires gathered-near-set-requires add-requires returns gathered-run-requires add-requires-2 past-run-requires
+    gathered-near-set-requires-2 add-requires-3 returns-2)

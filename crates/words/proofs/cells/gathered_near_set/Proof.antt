@@ -40,7 +40,13 @@ loop-less : tie.Need-loop-less Inv-loop μ-loop
 loop-less c = search needs
 
 loop-again : tie.Need-loop-again Inv-loop μ-loop
-loop-again c = let t = subst⁻¹ (λ (t : ℕ). Cleared (c .before .before .before .before .loop .left) (c .without-lowest .result) t) (c .before .before .lowest .ensures .0) (c .without-lowest .ensures .0) in (of-row _ _ _ _ _ _ _ _ _ _ (passed-turn (c .before .before .before .before .loop .inv .1) t) (c .before .before .before .before .loop .inv .0) (c .before .with-row .ensures .0) (c .before .with-row .ensures .1) (c .before .with-row .ensures .2) (c .before .with-row .ensures .3), part-cleared t (c .before .before .before .before .loop .inv .1))
+loop-again c =
+    let at-with-row = c .before in
+    let head = at-with-row .before .before .before in
+    let t = subst⁻¹ (λ (t : ℕ). Cleared (head .loop .left) (c .without-lowest .result) t) (c .before .before .lowest .ensures .0) (c .without-lowest .ensures .0) in (
+      of-row _ _ _ _ _ _ _ _ _ _ (passed-turn (head .loop .inv .1) t) (head .loop .inv .0) (at-with-row .with-row .ensures .0) (at-with-row .with-row .ensures .1) (at-with-row .with-row .ensures .2) (at-with-row .with-row .ensures .3),
+      part-cleared t (head .loop .inv .1),
+    )
 
 returns : tie.Need-returns Inv-loop μ-loop
 returns c = of-same _ (λ i. ap (λ (m : ℕ). passed (c .before .before .before .args .word) m i) (c .loop-test .left) ∙ passed-end (c .before .before .before .args .word) i) (c .before .loop .inv .0)
@@ -48,16 +54,5 @@ returns c = of-same _ (λ i. ap (λ (m : ℕ). passed (c .before .before .before
 pub gathered-near-set-spec : {M : Type 1} → statement M
 gathered-near-set-spec =
     tie.close
-    (tie.spec
-    Inv-loop
-    μ-loop
-    loop-holds
-    lowest-requires
-    cast-with-row
-    mul-with-row
-    add-with-row
-    with-row-requires
-    without-lowest-requires
-    loop-less
-    loop-again
-    returns)
+    (tie.spec Inv-loop μ-loop loop-holds lowest-requires cast-with-row mul-with-row add-with-row with-row-requires without-lowest-requires
+    loop-less loop-again returns)

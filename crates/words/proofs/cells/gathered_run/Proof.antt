@@ -41,15 +41,4 @@ returns c = let e : c .before .loop .k ≡ c .before .before .before .args .n = 
 
 pub gathered-run-spec : {M : Type 1} → statement M
 gathered-run-spec =
-    tie.close
-    (tie.spec
-    Inv-loop
-    μ-loop
-    loop-holds
-    mul-with-row
-    add-with-row
-    with-row-requires
-    add-k
-    loop-less
-    loop-again
-    returns)
+    tie.close (tie.spec Inv-loop μ-loop loop-holds mul-with-row add-with-row with-row-requires add-k loop-less loop-again returns)

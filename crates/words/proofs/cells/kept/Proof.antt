@@ -26,21 +26,16 @@ returns : tie.Need-returns
 returns c = kept-near _ _ _ _ (c .before .before .before .pre .0) (c .before .before .before .fits .word .fits) (c .before .before .before .pre .1) (c .if1 .taken) (c .before .kept-near .ensures)
 
 kept-far-requires : tie.Need-kept-far-requires
-kept-far-requires c κs = (omega (arith, c .before .before .before .pre .0), c .before .before .before .pre .1, far-readable _ _ _ _ (c .before .before .before .pre .0) (c .before .before .before .fits .word .fits) (c .before .before .before .pre .2))
+kept-far-requires c κs =
+    let start = c .before .before .before in
+    let p = start .pre in
+    (omega (arith, p .0), p .1, far-readable _ _ _ _ (p .0) (start .fits .word .fits) (p .2))
 
 returns-2 : tie.Need-returns-2
-returns-2 c = kept-both _ _ _ _ (c .before .before .before .before .pre .0) (c .before .before .before .before .fits .word .fits) (c .before .before .before .before .pre .1) (c .before .before .kept-near .ensures) (c .kept-far .ensures)
+returns-2 c =
+    let start = c .before .before .before .before in
+    let p = start .pre in
+    kept-both _ _ _ _ (p .0) (start .fits .word .fits) (p .1) (c .before .before .kept-near .ensures) (c .kept-far .ensures)
 
 pub kept-spec : {M : Type 1} → statement M
-kept-spec =
-    tie.close
-    (tie.spec
-    mul-from
-    add-base
-    mul-base
-    add-base-2
-    add-kept-near
-    kept-near-requires
-    returns
-    kept-far-requires
-    returns-2)
+kept-spec = tie.close (tie.spec mul-from add-base mul-base add-base-2 add-kept-near kept-near-requires returns kept-far-requires returns-2)

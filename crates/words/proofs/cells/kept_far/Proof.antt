@@ -38,13 +38,21 @@ add-wide32-3 : tie.Need-add-wide32-3 Inv-loop μ-loop
 add-wide32-3 c = let e = c .before .before .loop .inv .1 .at _ (c .lowest .ensures .2) in let k = c .before .before .before .before .pre .2 .there _ e in search (needs, k, c .before .before .before .before .pre .1)
 
 shared-slice-read-wide32 : tie.Need-shared-slice-read-wide32 Inv-loop μ-loop
-shared-slice-read-wide32 c = let e = c .before .before .before .loop .inv .1 .at _ (c .before .lowest .ensures .2) in omega (arith, c .before .before .before .before .before .pre .1, c .before .before .before .before .before .pre .2 .there _ e)
+shared-slice-read-wide32 c =
+    let start = c .before .before .before .before .before in
+    let p = start .pre in
+    let e = c .before .before .before .loop .inv .1 .at _ (c .before .lowest .ensures .2) in
+    omega (arith, p .1, p .2 .there _ e)
 
 wide32-requires : tie.Need-wide32-requires Inv-loop μ-loop
 wide32-requires c κs = search needs
 
 has-requires : tie.Need-has-requires Inv-loop μ-loop
-has-requires c κs = let e = c .before .before .before .before .loop .inv .1 .at _ (c .before .before .lowest .ensures .2) in rw (c .wide32 .ensures) (c .before .before .before .before .before .before .pre .2 .value _ _ e (c .before .before .before .before .before .before .pre .1))
+has-requires c κs =
+    let start = c .before .before .before .before .before .before in
+    let p = start .pre in
+    let e = c .before .before .before .before .loop .inv .1 .at _ (c .before .before .lowest .ensures .2) in
+    rw (c .wide32 .ensures) (p .2 .value _ _ e (p .1))
 
 cast-keep : tie.Need-cast-keep Inv-loop μ-loop
 cast-keep c = search needs
@@ -59,8 +67,12 @@ loop-less : tie.Need-loop-less Inv-loop μ-loop
 loop-less c = search needs
 
 loop-again : tie.Need-loop-again Inv-loop μ-loop
-loop-again c = let t = subst⁻¹ (λ (t : ℕ). Cleared (c .before .before .before .before .before .before .loop .left) (c .without-lowest .result) t) (c .before .before .before .before .lowest .ensures .0) (c .without-lowest .ensures .0) in
-    (walked-turn (c .before .before .before .before .before .before .loop .inv .0) t (c .before .has .ensures .1) (c .before .before .before .before .lowest .ensures .1) (far-in _ _ _ _ _ _ _ _ (c .before .before .wide32 .ensures) (c .before .has .ensures .0)), part-cleared t (c .before .before .before .before .before .before .loop .inv .1))
+loop-again c =
+    let at-has = c .before in
+    let at-lowest = at-has .before .before .before in
+    let head = at-lowest .before .before in
+    let t = subst⁻¹ (λ (t : ℕ). Cleared (head .loop .left) (c .without-lowest .result) t) (at-lowest .lowest .ensures .0) (c .without-lowest .ensures .0) in
+    (walked-turn (head .loop .inv .0) t (at-has .has .ensures .1) (at-lowest .lowest .ensures .1) (far-in _ _ _ _ _ _ _ _ (c .before .before .wide32 .ensures) (at-has .has .ensures .0)), part-cleared t (head .loop .inv .1))
 
 returns : tie.Need-returns Inv-loop μ-loop
 returns c = far-end (rw (c .loop-test .left) at (c .before .loop .inv .0))
@@ -68,23 +80,5 @@ returns c = far-end (rw (c .loop-test .left) at (c .before .loop .inv .0))
 pub kept-far-spec : {M : Type 1} → statement M
 kept-far-spec =
     tie.close
-    (tie.spec
-    Inv-loop
-    μ-loop
-    loop-holds
-    lowest-requires
-    cast-r
-    add-r
-    add-wide32
-    mul-wide32
-    add-wide32-2
-    add-wide32-3
-    shared-slice-read-wide32
-    wide32-requires
-    has-requires
-    cast-keep
-    shl-keep
-    without-lowest-requires
-    loop-less
-    loop-again
-    returns)
+    (tie.spec Inv-loop μ-loop loop-holds lowest-requires cast-r add-r add-wide32 mul-wide32 add-wide32-2 add-wide32-3 shared-slice-read-wide32
+    wide32-requires has-requires cast-keep shl-keep without-lowest-requires loop-less loop-again returns)

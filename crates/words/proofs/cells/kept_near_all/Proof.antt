@@ -39,7 +39,9 @@ has-requires : tie.Need-has-requires Inv-loop μ-loop
 has-requires c κs = search needs
 
 add-keep-2 : tie.Need-add-keep-2 Inv-loop μ-loop
-add-keep-2 c = let z = lt-of-lt-of-le (all-fits (c .before .before .before .before .loop .inv)) (pow-mono (let q : 60 - c .before .before .before .before .loop .k ≤ 60 = omega arith in q)) in search (needs, z, c .has .ensures .1)
+add-keep-2 c =
+    let head = c .before .before .before .before in
+    let z = lt-of-lt-of-le (all-fits (head .loop .inv)) (pow-mono (let q : 60 - head .loop .k ≤ 60 = omega arith in q)) in search (needs, z, c .has .ensures .1)
 
 loop-less : tie.Need-loop-less Inv-loop μ-loop
 loop-less c = search needs
@@ -53,18 +55,5 @@ returns c = all-end (omega (arith, c .loop-test .left)) (c .before .loop .inv)
 pub kept-near-all-spec : {M : Type 1} → statement M
 kept-near-all-spec =
     tie.close
-    (tie.spec
-    Inv-loop
-    μ-loop
-    loop-holds
-    sub-k
-    add-keep
-    mul-wide32
-    add-wide32
-    shared-slice-read-wide32
-    wide32-requires
-    has-requires
-    add-keep-2
-    loop-less
-    loop-again
-    returns)
+    (tie.spec Inv-loop μ-loop loop-holds sub-k add-keep mul-wide32 add-wide32 shared-slice-read-wide32 wide32-requires has-requires add-keep-2
+    loop-less loop-again returns)

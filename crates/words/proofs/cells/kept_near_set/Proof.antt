@@ -49,8 +49,12 @@ loop-less : tie.Need-loop-less Inv-loop μ-loop
 loop-less c = search needs
 
 loop-again : tie.Need-loop-again Inv-loop μ-loop
-loop-again c = let t = subst⁻¹ (λ (t : ℕ). Cleared (c .before .before .before .before .before .before .loop .left) (c .without-lowest .result) t) (c .before .before .before .before .lowest .ensures .0) (c .without-lowest .ensures .0) in
-    (walked-turn (c .before .before .before .before .before .before .loop .inv .0) t (c .before .has .ensures .1) (c .before .before .before .before .lowest .ensures .1) (near-in _ _ _ _ _ _ (c .before .before .wide32 .ensures) (c .before .has .ensures .0)), part-cleared t (c .before .before .before .before .before .before .loop .inv .1))
+loop-again c =
+    let at-has = c .before in
+    let at-lowest = at-has .before .before .before in
+    let head = at-lowest .before .before in
+    let t = subst⁻¹ (λ (t : ℕ). Cleared (head .loop .left) (c .without-lowest .result) t) (at-lowest .lowest .ensures .0) (c .without-lowest .ensures .0) in
+    (walked-turn (head .loop .inv .0) t (at-has .has .ensures .1) (at-lowest .lowest .ensures .1) (near-in _ _ _ _ _ _ (c .before .before .wide32 .ensures) (at-has .has .ensures .0)), part-cleared t (head .loop .inv .1))
 
 returns : tie.Need-returns Inv-loop μ-loop
 returns c = near-end (rw (c .loop-test .left) at (c .before .loop .inv .0))
@@ -58,20 +62,5 @@ returns c = near-end (rw (c .loop-test .left) at (c .before .loop .inv .0))
 pub kept-near-set-spec : {M : Type 1} → statement M
 kept-near-set-spec =
     tie.close
-    (tie.spec
-    Inv-loop
-    μ-loop
-    loop-holds
-    lowest-requires
-    cast-wide32
-    mul-wide32
-    add-wide32
-    shared-slice-read-wide32
-    wide32-requires
-    has-requires
-    cast-keep
-    shl-keep
-    without-lowest-requires
-    loop-less
-    loop-again
-    returns)
+    (tie.spec Inv-loop μ-loop loop-holds lowest-requires cast-wide32 mul-wide32 add-wide32 shared-slice-read-wide32 wide32-requires has-requires
+    cast-keep shl-keep without-lowest-requires loop-less loop-again returns)

@@ -54,27 +54,22 @@ only-requires-4 : tie.Need-only-requires-4
 only-requires-4 c κs = search needs
 
 returns : tie.Need-returns
-returns c = let z : c .before .before .before .before .before .before .before .before .before .before .before .before .before .before .before .before .before .args .at ≡ c .before .before .before .before .before .before .before .before .before .before .before .before .before .before .before .before .before .args .at + 0 = omega arith in
-    let b0 : byteAt (c .before .before .before .before .before .before .before .before .before .before .before .before .before .before .before .before .before .args .book .now) (c .before .before .before .before .before .before .before .before .before .before .before .before .before .before .before .before .before .args .at) < 32 = rw (← z) at (c .before .before .before .before .before .before .before .before .before .before .before .before .before .before .before .before .before .pre .value 0 (omega arith)) in
-    (ap (bitOr (c .before .before .before .before .before .before .before .before .before .before .before .before .before .before .before .before .before .args .f .a)) (c .before .before .before .before .before .before .before .before .before .before .before .before .before .only .ensures ∙ ap (λ (x : ℕ). 2 ^ x) (low-five (c .before .before .before .before .before .before .before .before .before .before .before .before .before .before .wide32 .ensures) b0 ∙ ap (byteAt (c .before .before .before .before .before .before .before .before .before .before .before .before .before .before .before .before .before .args .book .now)) z)), ap (bitOr (c .before .before .before .before .before .before .before .before .before .before .before .before .before .before .before .before .before .args .f .b)) (c .before .before .before .before .before .before .before .before .before .only2 .ensures ∙ ap (λ (x : ℕ). 2 ^ x) (low-five (c .before .before .before .before .before .before .before .before .before .before .wide322 .ensures) (c .before .before .before .before .before .before .before .before .before .before .before .before .before .before .before .before .before .pre .value 1 (omega arith)))), ap (bitOr (c .before .before .before .before .before .before .before .before .before .before .before .before .before .before .before .before .before .args .f .c)) (c .before .before .before .before .before .only3 .ensures ∙ ap (λ (x : ℕ). 2 ^ x) (low-five (c .before .before .before .before .before .before .wide323 .ensures) (c .before .before .before .before .before .before .before .before .before .before .before .before .before .before .before .before .before .pre .value 2 (omega arith)))), ap (bitOr (c .before .before .before .before .before .before .before .before .before .before .before .before .before .before .before .before .before .args .f .d)) (c .before .only4 .ensures ∙ ap (λ (x : ℕ). 2 ^ x) (low-five (c .before .before .wide324 .ensures) (c .before .before .before .before .before .before .before .before .before .before .before .before .before .before .before .before .before .pre .value 3 (omega arith)))))
+returns c =
+    let at-only = c .before .before .before .before .before in
+    let at-wide = at-only .before in
+    let at-only-2 = at-wide .before .before .before in
+    let at-wide-2 = at-only-2 .before in
+    let at-only-3 = at-wide-2 .before .before .before in
+    let at-wide-3 = at-only-3 .before in
+    let start = at-wide-3 .before .before .before in
+    let p = start .pre in
+    let z : start .args .at ≡ start .args .at + 0 = omega arith in
+    let b0 : byteAt (start .args .book .now) (start .args .at) < 32 = rw (← z) at (p .value 0 (omega arith)) in
+    (ap (bitOr (start .args .f .a)) (at-only-3 .only .ensures ∙ ap (λ (x : ℕ). 2 ^ x) (low-five (at-wide-3 .wide32 .ensures) b0 ∙ ap (byteAt (start .args .book .now)) z)), ap (bitOr (start .args .f .b)) (at-only-2 .only2 .ensures ∙ ap (λ (x : ℕ). 2 ^ x) (low-five (at-wide-2 .wide322 .ensures) (p .value 1 (omega arith)))), ap (bitOr (start .args .f .c)) (at-only .only3 .ensures ∙ ap (λ (x : ℕ). 2 ^ x) (low-five (at-wide .wide323 .ensures) (p .value 2 (omega arith)))), ap (bitOr (start .args .f .d)) (c .before .only4 .ensures ∙ ap (λ (x : ℕ). 2 ^ x) (low-five (c .before .before .wide324 .ensures) (p .value 3 (omega arith)))))
 
 pub with-row-spec : {M : Type 1} → statement M
 with-row-spec =
     tie.close
-    (tie.spec
-    shared-slice-read-wide32
-    wide32-requires
-    only-requires
-    add-wide32
-    shared-slice-read-wide32-2
-    wide32-requires-2
-    only-requires-2
-    add-wide32-2
-    shared-slice-read-wide32-3
-    wide32-requires-3
-    only-requires-3
-    add-wide32-3
-    shared-slice-read-wide32-4
-    wide32-requires-4
-    only-requires-4
-    returns)
+    (tie.spec shared-slice-read-wide32 wide32-requires only-requires add-wide32 shared-slice-read-wide32-2 wide32-requires-2 only-requires-2
+    add-wide32-2 shared-slice-read-wide32-3 wide32-requires-3 only-requires-3 add-wide32-3 shared-slice-read-wide32-4 wide32-requires-4
+    only-requires-4 returns)

@@ -30,22 +30,14 @@ loop-less : tie.Need-loop-less Inv-loop μ-loop
 loop-less c = search needs
 
 loop-again : tie.Need-loop-again Inv-loop μ-loop
-loop-again c = let e : c .before .before .before .before .before .loop .p ≡ c .before .before .before .before .before .loop .p - 1 + 1 = omega (arith, c .before .before .before .before .loop-test .taken) in
-    let h = cutting-more (rw e at (c .before .before .before .before .before .loop .inv .0)) (c .cut-word .ensures .0) (c .cut-word .ensures .1) in (h, cutting-inside h (c .before .before .before .before .before .before .before .before .before .pre .2))
+loop-again c =
+    let head = c .before .before .before .before .before in
+    let start = head .before .before .before .before in
+    let e : head .loop .p ≡ head .loop .p - 1 + 1 = omega (arith, c .before .before .before .before .loop-test .taken) in
+    let h = cutting-more (rw e at (head .loop .inv .0)) (c .cut-word .ensures .0) (c .cut-word .ensures .1) in (h, cutting-inside h (start .pre .2))
 
 returns : tie.Need-returns Inv-loop μ-loop
 returns c = let e : c .before .loop .p ≡ 0 = omega (arith, c .loop-test .left) in (cutting-end (rw e at (c .before .loop .inv .0)), c .before .loop .inv .0 .same)
 
 pub cut-spec : {M : Type 1} → statement M
-cut-spec =
-    tie.close
-    (tie.spec
-    Inv-loop
-    μ-loop
-    nonzero-words-requires
-    loop-holds
-    sub-p
-    cut-word-requires
-    loop-less
-    loop-again
-    returns)
+cut-spec = tie.close (tie.spec Inv-loop μ-loop nonzero-words-requires loop-holds sub-p cut-word-requires loop-less loop-again returns)

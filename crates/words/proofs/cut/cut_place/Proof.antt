@@ -24,23 +24,22 @@ element-copy-out-cut : tie.Need-element-copy-out-cut
 element-copy-out-cut c = omega (arith, c .before .column .ensures .0, column-below (c .before .before .before .pre .0) _ (c .before .before .before .pre .1))
 
 cut-requires : tie.Need-cut-requires
-cut-requires c κs = (c .before .before .before .before .before .before .before .pre .0, omega (arith, c .before .before .before .before .before .before .before .pre .1, width-most (c .before .before .before .before .before .before .before .pre .0) .1), c .before .before .before .before .before .before .before .pre .2, c .before .before .before .before .before .before .before .pre .3, c .before .before .before .before .before .before .before .pre .4)
+cut-requires c κs =
+    let start = c .before .before .before .before .before .before .before in
+    let p = start .pre in
+    (p .0, omega (arith, p .1, width-most (p .0) .1), p .2, p .3, p .4)
 
 returns : tie.Need-returns
-returns c = (cut-changed _ _ _ _ _ _ (bit-is _ _ _ (c .before .before .before .before .before .before .column .ensures .0) (c .before .before .before .before .before .if1 .taken)) (ap (λ (i : ℕ). getD (c .before .before .before .before .before .before .before .before .args .dom .now) i 0) (c .before .before .before .before .before .before .column .ensures .0)) (c .cut .ensures .0), c .cut .ensures .1)
+returns c =
+    let at-if = c .before .before .before .before .before in
+    let at-column = at-if .before in
+    let start = at-column .before .before in (
+      cut-changed _ _ _ _ _ _ (bit-is _ _ _ (at-column .column .ensures .0) (at-if .if1 .taken)) (ap (λ (i : ℕ). getD (start .args .dom .now) i 0) (at-column .column .ensures .0)) (c .cut .ensures .0),
+      c .cut .ensures .1,
+    )
 
 returns-2 : tie.Need-returns-2
 returns-2 c = (cut-unchanged _ _ _ _ _ _ _ _ (c .before .before .before .pre .3) (c .before .before .before .pre .4) (bit-not _ _ _ (c .before .column .ensures .0) (c .if1 .left)), λ e. refl)
 
 pub cut-place-spec : {M : Type 1} → statement M
-cut-place-spec =
-    tie.close
-    (tie.spec
-    column-requires
-    cast-if1
-    shr-if1
-    mul-cut
-    element-copy-out-cut
-    cut-requires
-    returns
-    returns-2)
+cut-place-spec = tie.close (tie.spec column-requires cast-if1 shr-if1 mul-cut element-copy-out-cut cut-requires returns returns-2)

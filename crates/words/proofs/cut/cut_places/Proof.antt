@@ -33,21 +33,20 @@ loop-less : tie.Need-loop-less Inv-loop μ-loop
 loop-less c = search needs
 
 loop-again : tie.Need-loop-again Inv-loop μ-loop
-loop-again c = (cut-more _ _ _ _ _ (c .before .before .before .before .before .loop .inv .0) (c .cut-place .ensures .0), cut-inside (c .cut-place .ensures .0) (c .before .before .before .before .before .loop .inv .1), omega (arith, c .before .before .before .before .loop-test .taken), λ e. let f = c .before .before .before .before .before .loop .inv .3 (or-false-l (c .before .before .before .before .before .loop .any) (c .cut-place .result) e) in (f .0, c .cut-place .ensures .1 (or-false-r (c .before .before .before .before .before .loop .any) (c .cut-place .result) e) ∙ f .1))
+loop-again c =
+    let head = c .before .before .before .before .before in (
+      cut-more _ _ _ _ _ (head .loop .inv .0) (c .cut-place .ensures .0),
+      cut-inside (c .cut-place .ensures .0) (head .loop .inv .1),
+      omega (arith, c .before .before .before .before .loop-test .taken),
+      λ e. let f = head .loop .inv .3 (or-false-l (head .loop .any) (c .cut-place .result) e) in (f .0, c .cut-place .ensures .1 (or-false-r (head .loop .any) (c .cut-place .result) e) ∙ f .1),
+    )
 
 returns : tie.Need-returns Inv-loop μ-loop
-returns c = let e : c .before .loop .j ≡ widthOf (c .before .before .before .before .args .book .now) (c .before .before .before .before .args .s) = omega (arith, c .loop-test .left, c .before .loop .inv .2, c .before .before .width .ensures .0) in (rw e at (c .before .loop .inv .0), c .before .loop .inv .3)
+returns c =
+    let head = c .before in
+    let start = head .before .before .before in
+    let e : head .loop .j ≡ widthOf (start .args .book .now) (start .args .s) = omega (arith, c .loop-test .left, head .loop .inv .2, c .before .before .width .ensures .0) in
+    (rw e at (head .loop .inv .0), head .loop .inv .3)
 
 pub cut-places-spec : {M : Type 1} → statement M
-cut-places-spec =
-    tie.close
-    (tie.spec
-    Inv-loop
-    μ-loop
-    width-requires
-    loop-holds
-    cut-place-requires
-    add-j
-    loop-less
-    loop-again
-    returns)
+cut-places-spec = tie.close (tie.spec Inv-loop μ-loop width-requires loop-holds cut-place-requires add-j loop-less loop-again returns)

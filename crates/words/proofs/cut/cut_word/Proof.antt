@@ -24,10 +24,23 @@ element-copy-out-word : tie.Need-element-copy-out-word
 element-copy-out-word c = let q = eight (c .before .before .before .pre .0) in omega (arith, c .word-number .ensures .1)
 
 kept-requires : tie.Need-kept-requires
-kept-requires c κs = let l : c .before .before .before .before .args .p < 8 = omega (arith, c .before .before .before .before .pre .3 .few, c .before .before .before .before .pre .5) in (c .before .word-number .ensures .1, c .before .before .before .before .pre .1, word-readable (c .before .before .before .before .pre .0) _ (c .before .before .before .before .pre .2) _ (c .before .word-number .ensures .1) (c .before .before .before .before .pre .4 .bits _), word-there (c .before .before .before .before .pre .0) _ (c .before .before .before .before .pre .2) _ (c .before .word-number .ensures .1) (c .before .before .before .before .pre .4 .bits _) (rw (c .before .word-number .ensures .0) (c .before .before .before .before .pre .3 .limit _ l .0 (c .before .before .before .before .pre .5))))
+kept-requires c κs =
+    let at-word-number = c .before in
+    let start = at-word-number .before .before .before in
+    let l : start .args .p < 8 = omega (arith, start .pre .3 .few, start .pre .5) in (
+      at-word-number .word-number .ensures .1,
+      start .pre .1,
+      word-readable (start .pre .0) _ (start .pre .2) _ (at-word-number .word-number .ensures .1) (start .pre .4 .bits _),
+      word-there (start .pre .0) _ (start .pre .2) _ (at-word-number .word-number .ensures .1) (start .pre .4 .bits _) (rw (at-word-number .word-number .ensures .0) (start .pre .3 .limit _ l .0 (start .pre .5))),
+    )
 
 returns : tie.Need-returns
-returns c = (word-uncut (c .before .before .before .before .before .before .pre .0) _ _ _ _ _ _ (c .before .before .before .before .before .before .pre .3) (c .before .before .before .before .before .before .pre .4) (c .before .before .before .before .before .before .pre .5) _ _ _ (c .before .before .before .word-number .ensures .0) refl (c .before .kept .ensures) (c .if1 .taken), λ e. refl)
+returns c =
+    let start = c .before .before .before .before .before .before in
+    let p = start .pre in (
+      word-uncut (p .0) _ _ _ _ _ _ (p .3) (p .4) (p .5) _ _ _ (c .before .before .before .word-number .ensures .0) refl (c .before .kept .ensures) (c .if1 .taken),
+      λ e. refl,
+    )
 
 mul-live : tie.Need-mul-live
 mul-live c = let q = eight (c .before .before .before .before .before .before .pre .0) in search (needs, q, c .before .before .before .word-number .ensures .1)
@@ -36,27 +49,32 @@ element-write-live : tie.Need-element-write-live
 element-write-live c = let q = eight (c .before .before .before .before .before .before .pre .0) in omega (arith, c .before .before .before .word-number .ensures .1)
 
 drop-word-requires : tie.Need-drop-word-requires
-drop-word-requires c κs = (eight (c .before .before .before .before .before .before .before .before .before .pre .0), c .before .before .before .before .before .before .before .before .before .pre .5, c .before .before .before .before .before .before .before .before .before .pre .3 .few)
+drop-word-requires c κs =
+    let start = c .before .before .before .before .before .before .before .before .before in
+    let p = start .pre in
+    (eight (p .0), p .5, p .3 .few)
 
 returns-2 : tie.Need-returns-2
-returns-2 c = (rw (c .drop-word .ensures .0, c .drop-word .ensures .1) (word-zero (c .before .before .before .before .before .before .before .before .before .before .pre .0) _ _ _ _ _ _ (c .before .before .before .before .before .before .before .before .before .before .pre .3) (c .before .before .before .before .before .before .before .before .before .before .pre .4) (c .before .before .before .before .before .before .before .before .before .before .pre .5) _ _ _ (c .before .before .before .before .before .before .before .word-number .ensures .0) refl (c .before .before .before .before .before .kept .ensures) (c .before .before .before .before .before .kept .ok) (c .before .before .before .if2 .taken)), λ e. absurd (false≢true (sym e)))
+returns-2 c =
+    let at-kept = c .before .before .before .before .before in
+    let at-word-number = at-kept .before .before in
+    let start = at-word-number .before .before .before in
+    let p = start .pre in (
+      rw (c .drop-word .ensures .0, c .drop-word .ensures .1) (word-zero (p .0) _ _ _ _ _ _ (p .3) (p .4) (p .5) _ _ _ (at-word-number .word-number .ensures .0) refl (at-kept .kept .ensures) (at-kept .kept .ok) (c .before .before .before .if2 .taken)),
+      λ e. absurd (false≢true (sym e)),
+    )
 
 returns-3 : tie.Need-returns-3
-returns-3 c = (word-less (c .before .before .before .before .before .before .before .pre .0) _ _ _ _ _ _ (c .before .before .before .before .before .before .before .pre .3) (c .before .before .before .before .before .before .before .pre .4) (c .before .before .before .before .before .before .before .pre .5) _ _ _ (c .before .before .before .before .word-number .ensures .0) refl (c .before .before .kept .ensures) (c .before .before .kept .ok) (search needs), λ e. absurd (false≢true (sym e)))
+returns-3 c =
+    let at-kept = c .before .before in
+    let start = at-kept .before .before .before .before .before in
+    let p = start .pre in (
+      word-less (p .0) _ _ _ _ _ _ (p .3) (p .4) (p .5) _ _ _ (c .before .before .before .before .word-number .ensures .0) refl (at-kept .kept .ensures) (at-kept .kept .ok) (search needs),
+      λ e. absurd (false≢true (sym e)),
+    )
 
 pub cut-word-spec : {M : Type 1} → statement M
 cut-word-spec =
     tie.close
-    (tie.spec
-    word-number-requires
-    mul-at
-    add-at
-    mul-word
-    element-copy-out-word
-    kept-requires
-    returns
-    mul-live
-    element-write-live
-    drop-word-requires
-    returns-2
-    returns-3)
+    (tie.spec word-number-requires mul-at add-at mul-word element-copy-out-word kept-requires returns mul-live element-write-live
+    drop-word-requires returns-2 returns-3)

@@ -22,7 +22,10 @@ loop-holds : tie.Need-loop-holds Inv-loop μ-loop
 loop-holds c = (supporting-start _ _ _ _ (c .before .before .pre .4), rw (c .before .before .pre .4) no-sets, omega arith)
 
 word-number-requires : tie.Need-word-number-requires Inv-loop μ-loop
-word-number-requires c κs = let l : c .before .loop .p < 8 = omega (arith, c .before .before .before .before .pre .2 .few, c .before .before .nonzero-words .ensures .0, c .loop-test .taken) in (eight (c .before .before .before .before .pre .0), l, c .before .before .before .before .pre .2 .each _ l)
+word-number-requires c κs =
+    let start = c .before .before .before .before in
+    let l : c .before .loop .p < 8 = omega (arith, start .pre .2 .few, c .before .before .nonzero-words .ensures .0, c .loop-test .taken) in
+    (eight (start .pre .0), l, start .pre .2 .each _ l)
 
 mul-gathered : tie.Need-mul-gathered Inv-loop μ-loop
 mul-gathered c = let q = eight (c .before .before .before .before .before .pre .0) in search (needs, q)
@@ -37,13 +40,31 @@ element-copy-out-gathered : tie.Need-element-copy-out-gathered Inv-loop μ-loop
 element-copy-out-gathered c = let q = eight (c .before .before .before .before .before .pre .0) in omega (arith, c .word-number .ensures .1)
 
 gathered-requires : tie.Need-gathered-requires Inv-loop μ-loop
-gathered-requires c κs = let l : c .before .before .before .before .loop .p < 8 = omega (arith, c .before .before .before .before .before .before .before .pre .2 .few, c .before .before .before .before .before .nonzero-words .ensures .0, c .before .before .before .loop-test .taken) in (c .before .before .word-number .ensures .1, word-readable (c .before .before .before .before .before .before .before .pre .0) _ (c .before .before .before .before .before .before .before .pre .1) _ (c .before .before .word-number .ensures .1) (c .before .before .before .before .before .before .before .pre .3 .bits _), word-there (c .before .before .before .before .before .before .before .pre .0) _ (c .before .before .before .before .before .before .before .pre .1) _ (c .before .before .word-number .ensures .1) (c .before .before .before .before .before .before .before .pre .3 .bits _) (rw (c .before .before .word-number .ensures .0) (c .before .before .before .before .before .before .before .pre .2 .limit _ l .0 (omega (arith, c .before .before .before .before .before .nonzero-words .ensures .0, c .before .before .before .loop-test .taken)))), c .before .before .before .before .loop .inv .1)
+gathered-requires c κs =
+    let at-word-number = c .before .before in
+    let turn = at-word-number .before in
+    let head = turn .before in
+    let at-nonzero-words = head .before in
+    let start = at-nonzero-words .before .before in
+    let l : head .loop .p < 8 = omega (arith, start .pre .2 .few, at-nonzero-words .nonzero-words .ensures .0, turn .loop-test .taken) in (
+      at-word-number .word-number .ensures .1,
+      word-readable (start .pre .0) _ (start .pre .1) _ (at-word-number .word-number .ensures .1) (start .pre .3 .bits _),
+      word-there (start .pre .0) _ (start .pre .1) _ (at-word-number .word-number .ensures .1) (start .pre .3 .bits _) (rw (at-word-number .word-number .ensures .0) (start .pre .2 .limit _ l .0 (omega (arith, at-nonzero-words .nonzero-words .ensures .0, turn .loop-test .taken)))),
+      head .loop .inv .1,
+    )
 
 covered-requires : tie.Need-covered-requires Inv-loop μ-loop
 covered-requires c κs = search needs
 
 returns : tie.Need-returns Inv-loop μ-loop
-returns c = supporting-covered (c .before .before .before .before .before .before .before .before .before .before .before .pre .0) (c .before .before .before .before .before .before .before .before .before .before .before .pre .2) (c .before .before .before .before .before .before .before .before .before .before .before .pre .3) (supporting-more (c .before .before .before .before .before .before .before .before .before .before .before .pre .0) (c .before .before .before .before .before .before .before .before .before .before .before .pre .2) (c .before .before .before .before .before .before .before .before .before .before .before .pre .3) (omega (arith, c .before .before .before .before .before .before .before .before .before .nonzero-words .ensures .0, c .before .before .before .before .before .before .before .loop-test .taken)) (c .before .before .before .before .before .before .word-number .ensures .0) refl (c .before .before .before .before .before .before .before .before .loop .inv .0) (c .before .before .before .gathered .ensures .0)) (c .before .covered .ensures (c .if1 .taken))
+returns c =
+    let at-word-number = c .before .before .before .before .before .before in
+    let turn = at-word-number .before in
+    let head = turn .before in
+    let at-nonzero-words = head .before in
+    let start = at-nonzero-words .before .before in
+    let p = start .pre in
+    supporting-covered (p .0) (p .2) (p .3) (supporting-more (p .0) (p .2) (p .3) (omega (arith, at-nonzero-words .nonzero-words .ensures .0, turn .loop-test .taken)) (at-word-number .word-number .ensures .0) refl (head .loop .inv .0) (c .before .before .before .gathered .ensures .0)) (c .before .covered .ensures (c .if1 .taken))
 
 add-p : tie.Need-add-p Inv-loop μ-loop
 add-p c = search needs
@@ -52,28 +73,27 @@ loop-less : tie.Need-loop-less Inv-loop μ-loop
 loop-less c = search needs
 
 loop-again : tie.Need-loop-again Inv-loop μ-loop
-loop-again c = (supporting-more (c .before .before .before .before .before .before .before .before .before .before .before .pre .0) (c .before .before .before .before .before .before .before .before .before .before .before .pre .2) (c .before .before .before .before .before .before .before .before .before .before .before .pre .3) (omega (arith, c .before .before .before .before .before .before .before .before .before .nonzero-words .ensures .0, c .before .before .before .before .before .before .before .loop-test .taken)) (c .before .before .before .before .before .before .word-number .ensures .0) refl (c .before .before .before .before .before .before .before .before .loop .inv .0) (c .before .before .before .gathered .ensures .0), c .before .before .before .gathered .ensures .1, omega (arith, c .before .before .before .before .before .before .before .loop-test .taken))
+loop-again c =
+    let at-gathered = c .before .before .before in
+    let at-word-number = at-gathered .before .before .before in
+    let turn = at-word-number .before in
+    let head = turn .before in
+    let at-nonzero-words = head .before in
+    let start = at-nonzero-words .before .before in
+    let p = start .pre in (
+      supporting-more (p .0) (p .2) (p .3) (omega (arith, at-nonzero-words .nonzero-words .ensures .0, turn .loop-test .taken)) (at-word-number .word-number .ensures .0) refl (head .loop .inv .0) (at-gathered .gathered .ensures .0),
+      at-gathered .gathered .ensures .1,
+      omega (arith, turn .loop-test .taken),
+    )
 
 returns-2 : tie.Need-returns-2 Inv-loop μ-loop
-returns-2 c = supporting-all (c .before .before .before .before .pre .0) (c .before .before .before .before .pre .2) (c .before .before .before .before .pre .3) (omega (arith, c .before .before .nonzero-words .ensures .0, c .loop-test .left)) (c .before .loop .inv .0)
+returns-2 c =
+    let start = c .before .before .before .before in
+    let p = start .pre in
+    supporting-all (p .0) (p .2) (p .3) (omega (arith, c .before .before .nonzero-words .ensures .0, c .loop-test .left)) (c .before .loop .inv .0)
 
 pub carried-spec : {M : Type 1} → statement M
 carried-spec =
     tie.close
-    (tie.spec
-    Inv-loop
-    μ-loop
-    nonzero-words-requires
-    loop-holds
-    word-number-requires
-    mul-gathered
-    add-gathered
-    mul-gathered-2
-    element-copy-out-gathered
-    gathered-requires
-    covered-requires
-    returns
-    add-p
-    loop-less
-    loop-again
-    returns-2)
+    (tie.spec Inv-loop μ-loop nonzero-words-requires loop-holds word-number-requires mul-gathered add-gathered mul-gathered-2
+    element-copy-out-gathered gathered-requires covered-requires returns add-p loop-less loop-again returns-2)

@@ -33,13 +33,5 @@ returns c = covered-sets _ _ (c .before .before .before .before .before .before 
 pub covered-spec : {M : Type 1} → statement M
 covered-spec =
     tie.close
-    (tie.spec
-    element-copy-out-result
-    element-copy-out-result-2
-    element-copy-out-result-3
-    element-copy-out-result-4
-    element-copy-out-result-5
-    element-copy-out-result-6
-    element-copy-out-result-7
-    element-copy-out-result-8
-    returns)
+    (tie.spec element-copy-out-result element-copy-out-result-2 element-copy-out-result-3 element-copy-out-result-4 element-copy-out-result-5
+    element-copy-out-result-6 element-copy-out-result-7 element-copy-out-result-8 returns)

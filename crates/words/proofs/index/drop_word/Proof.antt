@@ -47,17 +47,5 @@ returns c = (rw (c .before .before .wide .ensures .0) refl, refl)
 pub drop-word-spec : {M : Type 1} → statement M
 drop-word-spec =
     tie.close
-    (tie.spec
-    element-copy-out-n
-    sub-n
-    mul-last
-    wide-requires
-    add-last
-    mul-at
-    add-at
-    element-copy-out-x
-    element-copy-out-y
-    element-write-index
-    element-write-index-2
-    element-write-limit
-    returns)
+    (tie.spec element-copy-out-n sub-n mul-last wide-requires add-last mul-at add-at element-copy-out-x element-copy-out-y element-write-index
+    element-write-index-2 element-write-limit returns)

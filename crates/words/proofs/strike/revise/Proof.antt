@@ -8,24 +8,44 @@ use Rattle.words.proofs.strike.revise.Statement.{statement}
 use Rattle.words.proofs.strike.revise.Tie as tie
 
 cut-places-requires : tie.Need-cut-places-requires
-cut-places-requires c κs = (c .before .before .before .before .before .pre .0, c .before .before .before .before .before .pre .1 .inside, c .before .before .before .before .before .pre .1 .indexed, c .before .before .before .before .before .pre .2)
+cut-places-requires c κs =
+    let start = c .before .before .before .before .before in
+    let p = start .pre in
+    (p .0, p .1 .inside, p .1 .indexed, p .2)
 
 element-copy-out-if2 : tie.Need-element-copy-out-if2
 element-copy-out-if2 c = eight (c .before .before .before .before .before .before .before .pre .0)
 
 returns : tie.Need-returns
-returns c = revised-none (c .before .before .before .before .before .before .before .before .before .pre .0) (c .before .before .before .before .before .before .before .before .before .pre .3) (cut-known (c .before .before .before .before .before .before .before .before .before .pre .0) _ _ (c .before .before .before .before .before .before .before .before .before .pre .1) (c .before .before .before .cut-places .ensures .0)) (c .before .before .before .cut-places .ensures .0 .only) (c .before .before .before .cut-places .ensures .0 .sized) (c .if2 .taken)
+returns c =
+    let at-cut-places = c .before .before .before in
+    let start = at-cut-places .before .before .before .before .before .before in
+    let p = start .pre in
+    revised-none (p .0) (p .3) (cut-known (p .0) _ _ (p .1) (at-cut-places .cut-places .ensures .0)) (at-cut-places .cut-places .ensures .0 .only) (at-cut-places .cut-places .ensures .0 .sized) (c .if2 .taken)
 
 strike-requires : tie.Need-strike-requires
-strike-requires c κs = let h = cut-known (c .before .before .before .before .before .before .before .before .before .before .before .before .before .pre .0) _ _ (c .before .before .before .before .before .before .before .before .before .before .before .before .before .pre .1) (c .before .before .before .before .before .before .before .cut-places .ensures .0) in (c .before .before .before .before .before .before .before .before .before .before .before .before .before .pre .0, h .inside, h .indexed, c .before .before .before .before .before .before .before .cut-places .ensures .0 .sized, c .before .before .before .before .before .before .before .before .before .before .before .before .before .pre .3)
+strike-requires c κs =
+    let at-cut-places = c .before .before .before .before .before .before .before in
+    let start = at-cut-places .before .before .before .before .before .before in
+    let p = start .pre in
+    let h = cut-known (p .0) _ _ (p .1) (at-cut-places .cut-places .ensures .0) in
+    (p .0, h .inside, h .indexed, at-cut-places .cut-places .ensures .0 .sized, p .3)
 
 returns-2 : tie.Need-returns-2
-returns-2 c = revised-struck (c .before .before .before .before .before .before .before .before .before .before .before .before .before .before .pre .0) (c .before .before .before .before .before .before .before .before .before .before .before .before .before .before .pre .3) (cut-known (c .before .before .before .before .before .before .before .before .before .before .before .before .before .before .pre .0) _ _ (c .before .before .before .before .before .before .before .before .before .before .before .before .before .before .pre .1) (c .before .before .before .before .before .before .before .before .cut-places .ensures .0)) (c .before .before .before .before .before .before .before .before .cut-places .ensures .0 .only) (c .before .before .before .before .before .before .before .before .cut-places .ensures .0 .sized) (c .strike .ensures)
+returns-2 c =
+    let at-cut-places = c .before .before .before .before .before .before .before .before in
+    let start = at-cut-places .before .before .before .before .before .before in
+    let p = start .pre in
+    revised-struck (p .0) (p .3) (cut-known (p .0) _ _ (p .1) (at-cut-places .cut-places .ensures .0)) (at-cut-places .cut-places .ensures .0 .only) (at-cut-places .cut-places .ensures .0 .sized) (c .strike .ensures)
 
 returns-3 : tie.Need-returns-3
-returns-3 c = let e = c .before .cut-places .ensures .1 (c .if1 .left) in
-    revised-same (c .before .before .before .before .before .before .before .pre .0) (c .before .before .before .before .before .before .before .pre .3) (cut-known (c .before .before .before .before .before .before .before .pre .0) _ _ (c .before .before .before .before .before .before .before .pre .1) (c .before .cut-places .ensures .0)) (c .before .cut-places .ensures .0 .only) (c .before .cut-places .ensures .0 .sized)
-    (subst⁻¹ (λ (w : List ℕ). AllCarried (c .before .before .before .before .before .before .before .args .book .now) (c .before .before .before .before .before .before .before .args .s) (c .before .before .before .before .before .before .before .args .dom .now) w) (e .1) (c .before .before .before .before .before .before .before .pre .4 .at (e .0)))
+returns-3 c =
+    let at-cut-places = c .before in
+    let start = at-cut-places .before .before .before .before .before .before in
+    let p = start .pre in
+    let e = at-cut-places .cut-places .ensures .1 (c .if1 .left) in
+    revised-same (p .0) (p .3) (cut-known (p .0) _ _ (p .1) (at-cut-places .cut-places .ensures .0)) (at-cut-places .cut-places .ensures .0 .only) (at-cut-places .cut-places .ensures .0 .sized)
+    (subst⁻¹ (λ (w : List ℕ). AllCarried (start .args .book .now) (start .args .s) (start .args .dom .now) w) (e .1) (p .4 .at (e .0)))
 
 pub revise-spec : {M : Type 1} → statement M
 revise-spec =

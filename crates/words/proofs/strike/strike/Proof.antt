@@ -13,7 +13,10 @@ strike-to-requires : tie.Need-strike-to-requires
 strike-to-requires c κs = search needs
 
 returns : tie.Need-returns
-returns c = struck-all-places (c .before .before .before .before .before .before .before .before .before .before .pre .0) (c .before .before .before .before .before .before .wanted .ensures) (c .before .before .before .carried .ensures) (c .strike-to .ensures)
+returns c =
+    let at-wanted = c .before .before .before .before .before .before in
+    let start = at-wanted .before .before .before .before in
+    struck-all-places (start .pre .0) (at-wanted .wanted .ensures) (c .before .before .before .carried .ensures) (c .strike-to .ensures)
 
 pub strike-spec : {M : Type 1} → statement M
 strike-spec = tie.close (tie.spec wanted-requires carried-requires strike-to-requires returns)

@@ -25,10 +25,18 @@ mul-struck : tie.Need-mul-struck Inv-loop μ-loop
 mul-struck c = search needs
 
 element-copy-out-struck : tie.Need-element-copy-out-struck Inv-loop μ-loop
-element-copy-out-struck c = let l : c .before .loop .j < widthOf (c .before .before .before .before .args .book .now) (c .before .before .before .before .args .s) = omega (arith, c .before .before .width .ensures .0, c .loop-test .taken) in omega (arith, width-most (c .before .before .before .before .pre .0) .1)
+element-copy-out-struck c =
+    let start = c .before .before .before .before in
+    let l : c .before .loop .j < widthOf (start .args .book .now) (start .args .s) = omega (arith, c .before .before .width .ensures .0, c .loop-test .taken) in
+    omega (arith, width-most (start .pre .0) .1)
 
 struck-requires : tie.Need-struck-requires Inv-loop μ-loop
-struck-requires c κs = let l : c .before .before .before .loop .j < widthOf (c .before .before .before .before .before .before .args .book .now) (c .before .before .before .before .before .before .args .s) = omega (arith, c .before .before .before .before .width .ensures .0, c .before .before .loop-test .taken) in (c .before .before .before .before .before .before .pre .0, omega (arith, width-most (c .before .before .before .before .before .before .pre .0) .1), c .before .before .before .loop .inv .0 .loses .store)
+struck-requires c κs =
+    let head = c .before .before .before in
+    let start = head .before .before .before in
+    let p = start .pre in
+    let l : head .loop .j < widthOf (start .args .book .now) (start .args .s) = omega (arith, c .before .before .before .before .width .ensures .0, c .before .before .loop-test .taken) in
+    (p .0, omega (arith, width-most (p .0) .1), head .loop .inv .0 .loses .store)
 
 add-j : tie.Need-add-j Inv-loop μ-loop
 add-j c = search needs
@@ -40,20 +48,12 @@ loop-again : tie.Need-loop-again Inv-loop μ-loop
 loop-again c = (struck-more _ _ (c .before .before .before .before .loop .inv .0) (c .struck .ensures), omega (arith, c .before .before .before .loop-test .taken))
 
 returns : tie.Need-returns Inv-loop μ-loop
-returns c = let e : c .before .loop .j ≡ widthOf (c .before .before .before .before .args .book .now) (c .before .before .before .before .args .s) = omega (arith, c .loop-test .left, c .before .loop .inv .1, c .before .before .width .ensures .0) in rw e at (c .before .loop .inv .0)
+returns c =
+    let head = c .before in
+    let start = head .before .before .before in
+    let e : head .loop .j ≡ widthOf (start .args .book .now) (start .args .s) = omega (arith, c .loop-test .left, head .loop .inv .1, c .before .before .width .ensures .0) in
+    rw e at (head .loop .inv .0)
 
 pub strike-to-spec : {M : Type 1} → statement M
 strike-to-spec =
-    tie.close
-    (tie.spec
-    Inv-loop
-    μ-loop
-    width-requires
-    loop-holds
-    mul-struck
-    element-copy-out-struck
-    struck-requires
-    add-j
-    loop-less
-    loop-again
-    returns)
+    tie.close (tie.spec Inv-loop μ-loop width-requires loop-holds mul-struck element-copy-out-struck struck-requires add-j loop-less loop-again returns)

@@ -17,22 +17,34 @@ mul-d : tie.Need-mul-d
 mul-d c = search needs
 
 element-copy-out-d : tie.Need-element-copy-out-d
-element-copy-out-d c = let l : c .before .before .before .before .args .j < widthOf (c .before .before .before .before .args .book .now) (c .before .before .before .before .args .s) = omega (arith, c .before .if1 .taken, c .before .before .width .ensures .0) in omega (arith, c .column .ensures .0, column-below (c .before .before .before .before .pre .0) _ l)
+element-copy-out-d c =
+    let start = c .before .before .before .before in
+    let l : start .args .j < widthOf (start .args .book .now) (start .args .s) = omega (arith, c .before .if1 .taken, c .before .before .width .ensures .0) in
+    omega (arith, c .column .ensures .0, column-below (start .pre .0) _ l)
 
 mul-dom : tie.Need-mul-dom
 mul-dom c = search needs
 
 element-write-dom : tie.Need-element-write-dom
-element-write-dom c = let l : c .before .before .before .before .before .before .args .j < widthOf (c .before .before .before .before .before .before .args .book .now) (c .before .before .before .before .before .before .args .s) = omega (arith, c .before .before .before .if1 .taken, c .before .before .before .before .width .ensures .0) in omega (arith, c .before .before .column .ensures .0, column-below (c .before .before .before .before .before .before .pre .0) _ l)
+element-write-dom c =
+    let start = c .before .before .before .before .before .before in
+    let l : start .args .j < widthOf (start .args .book .now) (start .args .s) = omega (arith, c .before .before .before .if1 .taken, c .before .before .before .before .width .ensures .0) in
+    omega (arith, c .before .before .column .ensures .0, column-below (start .pre .0) _ l)
 
 cast-result : tie.Need-cast-result
 cast-result c = search needs
 
 shl-result : tie.Need-shl-result
-shl-result c = let l : c .before .before .before .before .before .before .args .j < widthOf (c .before .before .before .before .before .before .args .book .now) (c .before .before .before .before .before .before .args .s) = omega (arith, c .before .before .before .if1 .taken, c .before .before .before .before .width .ensures .0) in omega (arith, c .before .before .column .ensures .0, column-below (c .before .before .before .before .before .before .pre .0) _ l)
+shl-result c =
+    let start = c .before .before .before .before .before .before in
+    let l : start .args .j < widthOf (start .args .book .now) (start .args .s) = omega (arith, c .before .before .before .if1 .taken, c .before .before .before .before .width .ensures .0) in
+    omega (arith, c .before .before .column .ensures .0, column-below (start .pre .0) _ l)
 
 returns : tie.Need-returns
-returns c = struck-some _ _ (c .before .before .before .before .before .before .pre .0) (c .before .before .before .before .before .before .pre .2) (c .before .before .column .ensures .0) (omega (arith, c .before .before .before .if1 .taken, c .before .before .before .before .width .ensures .0)) (search needs)
+returns c =
+    let start = c .before .before .before .before .before .before in
+    let p = start .pre in
+    struck-some _ _ (p .0) (p .2) (c .before .before .column .ensures .0) (omega (arith, c .before .before .before .if1 .taken, c .before .before .before .before .width .ensures .0)) (search needs)
 
 returns-2 : tie.Need-returns-2
 returns-2 c = struck-all _ _ (c .before .before .before .before .before .before .pre .0) (c .before .before .before .before .before .before .pre .2) (c .before .before .column .ensures .0) (search needs)
@@ -43,15 +55,5 @@ returns-3 c = struck-past _ _ (c .before .before .before .pre .0) (c .before .be
 pub struck-spec : {M : Type 1} → statement M
 struck-spec =
     tie.close
-    (tie.spec
-    width-requires
-    column-requires
-    mul-d
-    element-copy-out-d
-    mul-dom
-    element-write-dom
-    cast-result
-    shl-result
-    returns
-    returns-2
+    (tie.spec width-requires column-requires mul-d element-copy-out-d mul-dom element-write-dom cast-result shl-result returns returns-2
     returns-3)

@@ -22,19 +22,29 @@ loop-holds : tie.Need-loop-holds Inv-loop μ-loop
 loop-holds c = (wanted-none (c .before .before .pre .2), omega arith)
 
 column-requires : tie.Need-column-requires Inv-loop μ-loop
-column-requires c κs = let l : c .before .loop .j < widthOf (c .before .before .before .before .args .book .now) (c .before .before .before .before .args .s) = omega (arith, c .before .before .width .ensures .0, c .loop-test .taken) in (head-there (c .before .before .before .before .pre .0), eight (c .before .before .before .before .pre .0), omega (arith, width-most (c .before .before .before .before .pre .0) .1))
+column-requires c κs =
+    let start = c .before .before .before .before in
+    let p = start .pre in
+    let l : c .before .loop .j < widthOf (start .args .book .now) (start .args .s) = omega (arith, c .before .before .width .ensures .0, c .loop-test .taken) in
+    (head-there (p .0), eight (p .0), omega (arith, width-most (p .0) .1))
 
 mul-x : tie.Need-mul-x Inv-loop μ-loop
 mul-x c = search needs
 
 element-copy-out-x : tie.Need-element-copy-out-x Inv-loop μ-loop
-element-copy-out-x c = let l : c .before .before .loop .j < widthOf (c .before .before .before .before .before .args .book .now) (c .before .before .before .before .before .args .s) = omega (arith, c .before .before .before .width .ensures .0, c .before .loop-test .taken) in omega (arith, c .column .ensures .0, column-below (c .before .before .before .before .before .pre .0) _ l)
+element-copy-out-x c =
+    let start = c .before .before .before .before .before in
+    let l : c .before .before .loop .j < widthOf (start .args .book .now) (start .args .s) = omega (arith, c .before .before .before .width .ensures .0, c .before .loop-test .taken) in
+    omega (arith, c .column .ensures .0, column-below (start .pre .0) _ l)
 
 mul-x-2 : tie.Need-mul-x-2 Inv-loop μ-loop
 mul-x-2 c = search needs
 
 element-write-x : tie.Need-element-write-x Inv-loop μ-loop
-element-write-x c = let l : c .before .before .before .loop .j < widthOf (c .before .before .before .before .before .before .args .book .now) (c .before .before .before .before .before .before .args .s) = omega (arith, c .before .before .before .before .width .ensures .0, c .before .before .loop-test .taken) in omega (arith, width-most (c .before .before .before .before .before .before .pre .0) .1)
+element-write-x c =
+    let start = c .before .before .before .before .before .before in
+    let l : c .before .before .before .loop .j < widthOf (start .args .book .now) (start .args .s) = omega (arith, c .before .before .before .before .width .ensures .0, c .before .before .loop-test .taken) in
+    omega (arith, width-most (start .pre .0) .1)
 
 add-j : tie.Need-add-j Inv-loop μ-loop
 add-j c = search needs
@@ -43,25 +53,23 @@ loop-less : tie.Need-loop-less Inv-loop μ-loop
 loop-less c = search needs
 
 loop-again : tie.Need-loop-again Inv-loop μ-loop
-loop-again c = let l : c .before .before .before .loop .j < widthOf (c .before .before .before .before .before .before .args .book .now) (c .before .before .before .before .before .before .args .s) = omega (arith, c .before .before .before .before .width .ensures .0, c .before .before .loop-test .taken) in (wanted-more (c .before .before .before .loop .inv .0) (omega (arith, width-most (c .before .before .before .before .before .before .pre .0) .1)) (c .before .column .ensures .0) (c .before .before .before .before .before .before .pre .1), omega (arith, c .before .before .loop-test .taken))
+loop-again c =
+    let turn = c .before .before in
+    let head = turn .before in
+    let start = head .before .before .before in
+    let p = start .pre in
+    let l : head .loop .j < widthOf (start .args .book .now) (start .args .s) = omega (arith, c .before .before .before .before .width .ensures .0, turn .loop-test .taken) in
+    (wanted-more (head .loop .inv .0) (omega (arith, width-most (p .0) .1)) (c .before .column .ensures .0) (p .1), omega (arith, turn .loop-test .taken))
 
 returns : tie.Need-returns Inv-loop μ-loop
-returns c = let e : c .before .loop .j ≡ widthOf (c .before .before .before .before .args .book .now) (c .before .before .before .before .args .s) = omega (arith, c .loop-test .left, c .before .loop .inv .1, c .before .before .width .ensures .0) in rw e at (c .before .loop .inv .0)
+returns c =
+    let head = c .before in
+    let start = head .before .before .before in
+    let e : head .loop .j ≡ widthOf (start .args .book .now) (start .args .s) = omega (arith, c .loop-test .left, head .loop .inv .1, c .before .before .width .ensures .0) in
+    rw e at (head .loop .inv .0)
 
 pub wanted-spec : {M : Type 1} → statement M
 wanted-spec =
     tie.close
-    (tie.spec
-    Inv-loop
-    μ-loop
-    width-requires
-    loop-holds
-    column-requires
-    mul-x
-    element-copy-out-x
-    mul-x-2
-    element-write-x
-    add-j
-    loop-less
-    loop-again
-    returns)
+    (tie.spec Inv-loop μ-loop width-requires loop-holds column-requires mul-x element-copy-out-x mul-x-2 element-write-x add-j loop-less
+    loop-again returns)

@@ -1,59 +1,40 @@
-use native.Mathlib.Omega.{arith}
+use Prim.Native.Nat.{_<_}
 use borrow.Author.Needs.{needs}
-use Rattle.engine.proofs.Narrowings.{narrow-ready, state-emptied, state-same, state-settled}
+use Rattle.model.proofs.Tests.{positive}
+use Rattle.engine.proofs.Narrowings.{state-emptied, state-same}
 use Rattle.engine.proofs.Worklists.{sixteen-columns}
 use Rattle.engine.proofs.state.State.narrowed.Statement.{statement}
 use Rattle.engine.proofs.state.State.narrowed.Tie as tie
 
+sixteen : (c : tie.Start) → c .args .c < 16
+sixteen c = sixteen-columns _ (c .pre .0) _ (c .pre .2)
+
 mul-d : tie.Need-mul-d
-mul-d c = let l = sixteen-columns _ (c .before .before .pre .0) _ (c .before .before .pre .2) in search (needs, l)
+mul-d c = let l = sixteen (c .before .before) in search (needs, l)
 
 array-read-d : tie.Need-array-read-d
-array-read-d c = sixteen-columns _ (c .before .before .pre .0) _ (c .before .before .pre .2)
+array-read-d c = sixteen (c .before .before)
 
 returns : tie.Need-returns
-returns c = state-same _ (c .before .before .before .pre .0) _ _ (c .before .before .before .pre .2) _ (c .if1 .taken)
+returns c =
+    let p = c .before .before .before .pre in
+    state-same _ (p .0) _ _ (p .2) _ (c .if1 .taken)
 
 failed-requires : tie.Need-failed-requires
 failed-requires c κs = search needs
 
 returns-2 : tie.Need-returns-2
-returns-2 c = state-emptied _ (c .before .before .before .before .before .pre .0) _ _ (c .before .before .before .before .before .pre .2) _ _ (c .failed .ensures) (c .before .if2 .taken)
+returns-2 c =
+    let p = c .before .before .before .before .before .pre in
+    state-emptied _ (p .0) _ _ (p .2) _ _ (c .failed .ensures) (c .before .if2 .taken)
 
-mul-dom : tie.Need-mul-dom
-mul-dom c = let l = sixteen-columns _ (c .before .before .before .before .pre .0) _ (c .before .before .before .before .pre .2) in search (needs, l)
-
-array-write-dom : tie.Need-array-write-dom
-array-write-dom c = sixteen-columns _ (c .before .before .before .before .pre .0) _ (c .before .before .before .before .pre .2)
-
-cast-column : tie.Need-cast-column
-cast-column c = let l = sixteen-columns _ (c .before .before .before .before .before .before .before .pre .0) _ (c .before .before .before .before .before .before .before .pre .2) in search (needs, l)
-
-shl-column : tie.Need-shl-column
-shl-column c = let l = sixteen-columns _ (c .before .before .before .before .before .before .before .pre .0) _ (c .before .before .before .before .before .before .before .pre .2) in omega (arith, l)
-
-waiting-for-requires : tie.Need-waiting-for-requires
-waiting-for-requires c κs = search needs
-
-settle-requires : tie.Need-settle-requires
-settle-requires c κs = (c .before .before .before .before .before .before .before .before .before .before .before .before .pre .0, c .before .before .before .before .before .before .before .before .before .before .before .before .pre .1, narrow-ready _ (c .before .before .before .before .before .before .before .before .before .before .before .before .pre .0) (c .before .before .before .before .before .before .before .before .before .before .before .before .pre .3 .stands) (c .before .before .before .before .before .before .before .before .before .before .before .before .pre .3 .is .holds) (c .before .before .before .before .before .before .before .before .before .before .before .before .pre .3 .is .store) (c .before .before .before .before .before .before .before .before .before .before .before .before .pre .3 .is .sized) _ _ (c .before .before .before .before .before .before .before .before .before .before .before .before .pre .2) (c .before .before .before .before .before .before .before .before .if2 .left) (c .before .before .before .before .before .before .before .before .before .before .before .before .pre .1) (c .before .before .before .before .waiting-for .ensures))
+propagated-requires : tie.Need-propagated-requires
+propagated-requires c κs =
+    let p = c .before .before .before .before .pre in
+    (p .0, p .1, p .2, p .3, positive _ (c .if2 .left))
 
 returns-3 : tie.Need-returns-3
-returns-3 c = state-settled _ (c .before .before .before .before .before .before .before .before .before .before .before .before .before .pre .0) _ _ (c .before .before .before .before .before .before .before .before .before .before .before .before .before .pre .2) _ _ (c .settle .ensures)
+returns-3 c = c .propagated .ensures
 
 pub narrowed-spec : {M : Type 1} → statement M
-narrowed-spec =
-    tie.close
-    (tie.spec
-    mul-d
-    array-read-d
-    returns
-    failed-requires
-    returns-2
-    mul-dom
-    array-write-dom
-    cast-column
-    shl-column
-    waiting-for-requires
-    settle-requires
-    returns-3)
+narrowed-spec = tie.close (tie.spec mul-d array-read-d returns failed-requires returns-2 propagated-requires returns-3)

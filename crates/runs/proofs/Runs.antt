@@ -1,6 +1,6 @@
 -- Laws of a list on its way, and of two whole lists. Assumes nothing.
 -- ---- how many, and the last
-use mathlib.Core.Path.{_∙_, _≡_, ap, refl, subst, subst⁻¹, sym}
+use mathlib.Core.Path.{_∙_, _≡_, ap, refl, subst, sym}
 use mathlib.Core.Bool.{Bool, _&&_, _||_, cond, false, false≢true, true}
 use mathlib.Core.Logic.{_⊎_, inl, inr}
 use mathlib.Core.Option.{Option, none, some}
@@ -14,22 +14,20 @@ use borrow.Author.Tests.{eq-eqb, eqb-false, eqb-true, ne-eqb}
 use Rattle.model.specs.Answers.{Answer, acceptedCount, acceptedFrom, answer, answerAt, answerBytes, answers, answersFrom, finishing, lastFrom, opening, outcomeOf, showing, solutionMasks}
 use Rattle.model.specs.Books.{Book, columnCount}
 use Rattle.model.specs.Demands.{Gives, HoldsDomains}
-use Rattle.model.specs.Orders.{Entry, argument, before, depth, domains, isAccepted, kind, mask, nonzero, outside, push, refusal, trail, trailFrom}
+use Rattle.model.specs.Orders.{Entry, argument, depth, domains, isAccepted, kind, mask, nonzero, outside, push, refusal, trail, trailFrom}
 use Rattle.model.specs.Solutions.{firstSolution}
 use Rattle.model.specs.Tests.{oneIf, tab}
-use Rattle.model.proofs.Demands.{answer-finish, answer-other, claim1, claim3, gives-demand3}
+use Rattle.model.proofs.Demands.{answer-finish, answer-other, claim3, gives-demand3}
 use Rattle.model.proofs.Refusals.{push-finish, refusal-back, refusal-finish, refusal-mark, refusal-narrow, refusal-other}
 use Rattle.model.proofs.Tests.{and-i, and-l, and-r, below, either, getD-tab, length-tab}
 use Rattle.model.proofs.Trails.{accepted-snoc, answers-snoc, trail-snoc}
 use Rattle.book.specs.Decoding.{bookOf}
 use Rattle.book.specs.Head.{columnsOf}
-use Rattle.engine.specs.Holds.{Holds, Refuses, Stepped, noState}
+use Rattle.engine.specs.Holds.{Holds, Refuses, Stepped}
 use Rattle.engine.specs.Lists.{orderAt, ordersOf, ordersTo}
-use Rattle.engine.specs.Sessions.{SomeState}
 use Rattle.engine.specs.declared.session.Session.{Session}
 use Rattle.engine.specs.declared.state.State.{State}
 use Rattle.engine.proofs.Lists.{orders-more, tab-last}
-use Rattle.engine.proofs.Steps.{narrow-holds, step-narrow, step-refused}
 use Rattle.engine.proofs.Turns.{columns-count}
 use Rattle.search.specs.Searches.{Finishes, isFound}
 use Rattle.search.specs.declared.Found.{Found}
@@ -113,10 +111,6 @@ refuses-small {b} x {L} {s} {r} h f = rw (f L (h .deep)) (refusal-small (bookOf 
 
 pub depth-small : {b : List ℕ} {L : List Entry} {s : Session} → Holds b L s → s .depth ≤ 16
 depth-small h = omega (arith, h .few, h .deep)
-
--- what was saved at a mark that stands
-pub saved-state : {b : List ℕ} {L : List Entry} {s : Session} (m : ℕ) → Holds b L s → 1 ≤ m → m ≤ s .depth → SomeState b (getD (s .saved) (m - 1) noState)
-saved-state {b} {L} {s} m h p q = record { stands = before (suc (m - 1)) L; is = h .marked (m - 1) (omega (arith, h .deep)) }
 
 -- the mark of an accepted back, as the code has it
 pub back-wide : {m a d : ℕ} → m ≡ a → (1 ≤ a) × (a ≤ d) × (d ≤ 16) → (1 ≤ m) × (m ≤ d) × (d ≤ 16)

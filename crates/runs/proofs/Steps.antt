@@ -1,18 +1,10 @@
 -- Laws of one order with its answer. Assumes nothing.
-use mathlib.Core.Path.{_∙_, _≡_, ap, refl, sym}
-use mathlib.Core.Bool.{_&&_, false, true}
-use mathlib.Core.Logic.{_⊎_, inl, inr}
+use mathlib.Core.Path.{_∙_, _≡_, ap, refl}
 use mathlib.Core.List.{List, [], _++_, append-nil}
 use Prim.Native.Nat.{_<_, _≤_, ℕ}
 use native.Mathlib.Omega.{arith}
-use lib.Dec.{eqb}
 use lib.ListN.{drop-of-length-le, length}
-use borrow.Author.Tests.{eq-eqb, eqb-true}
-use Rattle.model.specs.Answers.{Answer, answer, answerBytes, finishing, opening, showing}
-use Rattle.model.specs.Orders.{Entry, isAccepted, kind, push, refusal}
-use Rattle.model.proofs.Demands.{answer-finish, answer-other}
-use Rattle.model.proofs.Refusals.{push-finish}
-use Rattle.model.proofs.Tests.{and-i, and-l, and-r, either}
+use Rattle.model.specs.Answers.{Answer, answer, answerBytes, opening}
 use Rattle.book.specs.Decoding.{bookOf}
 use Rattle.engine.specs.Holds.{Holds, Refuses, SomeSession, Stepped}
 use Rattle.engine.specs.Sessions.{SomeState}

@@ -6,7 +6,7 @@ use engine::orders::*;
 use engine::session::*;
 use engine::state::*;
 ghost use mathlib.Core.Path.{_≡_};
-ghost use Prim.Native.Nat.{_+_, _*_, _/_, _<_, _≤_};
+ghost use Prim.Native.Nat.{_+_, _*_, _/_, _<_};
 ghost use lib.ListN.{length};
 ghost use Rattle.runs.specs.Results.{wrongList, RightInput, runResult, runSpace};
 ghost use Rattle.runs.specs.Runs.{RanTo};

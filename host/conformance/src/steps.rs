@@ -117,6 +117,22 @@ impl Steps {
         let refusal = REFUSALS.iter().position(|&other| other == refusal);
         refusal.map_or(0, |refusal| self.orders[place(kind)][refusal])
     }
+
+    /// Panics unless each kind was accepted, and refused for each of its causes, more often than this.
+    pub fn assert_more_than(&self, fewest: usize) {
+        for (kind, refusals) in [
+            (0, &[20][..]),
+            (1, &[0, 21, 22, 25]),
+            (2, &[0, 23, 25]),
+            (3, &[0, 24, 25]),
+            (4, &[0, 25]),
+        ] {
+            for &refusal in refusals {
+                let count = self.count(kind, refusal);
+                assert!(count > fewest, "kind {kind}, refusal {refusal}: {count}");
+            }
+        }
+    }
 }
 
 impl fmt::Display for Steps {

@@ -61,9 +61,9 @@ fn exported() -> Vec<String> {
     functions.map(|function| line(function, slice)).collect()
 }
 
-/// The functions of the extern block at the boundary.
-fn declared_in_rust() -> Vec<String> {
-    let source = source("src/library.rs");
+/// The library's functions in the extern block at a boundary.
+fn declared_in_rust(boundary: &str) -> Vec<String> {
+    let source = source(boundary);
     let (_, block) = source.split_once("unsafe extern \"C\" {").expect("a block");
     let (block, _) = block.split_once('}').expect("its end");
     let uses = [("*const u8", READ), ("*mut u8", WRITTEN), ("usize", LENGTH)];
@@ -72,6 +72,7 @@ fn declared_in_rust() -> Vec<String> {
         format!("{name}: {}", used(kind, uses))
     };
     let functions = block.split("fn ").skip(1);
+    let functions = functions.filter(|function| function.starts_with("fitting_"));
     functions.map(|function| line(function, each)).collect()
 }
 
@@ -118,7 +119,9 @@ fn every_declaration_is_the_librarys() {
                answers: written, answers_len: length) -> u64";
     let check = "fitting_check(book: read, book_len: length) -> u64";
     assert_eq!(exported, [check, run], "what crates/service exports");
-    assert_eq!(declared_in_rust(), exported, "src/library.rs");
+    for boundary in ["src/library.rs", "../fuzz/src/boundary.rs"] {
+        assert_eq!(declared_in_rust(boundary), exported, "{boundary}");
+    }
     assert_eq!(declared_in_c(), exported, "include/fitting.h");
 }
 

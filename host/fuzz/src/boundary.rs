@@ -9,7 +9,7 @@ use std::ptr;
 use std::sync::{LazyLock, Mutex};
 
 unsafe extern "C" {
-    fn fitting_check(book: *const u8, len: usize) -> u64;
+    fn fitting_check(book: *const u8, book_len: usize) -> u64;
     fn fitting_run(
         book: *const u8,
         book_len: usize,

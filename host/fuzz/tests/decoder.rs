@@ -142,16 +142,5 @@ fn seeded_inputs_agree_and_are_of_every_kind() {
         assert!(counts.runs[refusal] > 20, "run, refusal {refusal}");
     }
     assert!(counts.runs[0] > 1_000, "accepted runs");
-    for (kind, refusals) in [
-        (0, &[20][..]),
-        (1, &[0, 21, 22, 25]),
-        (2, &[0, 23, 25]),
-        (3, &[0, 24, 25]),
-        (4, &[0, 25]),
-    ] {
-        for &refusal in refusals {
-            let count = counts.steps.count(kind, refusal);
-            assert!(count > 100, "kind {kind}, refusal {refusal}: {count}");
-        }
-    }
+    counts.steps.assert_more_than(100);
 }

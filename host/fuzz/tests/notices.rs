@@ -44,7 +44,7 @@ fn a_wrong_place_of_a_refusal() {
     );
     assert_eq!(
         difference.expect_err("a difference"),
-        "check gives refusal 2 place 2 and not refusal 2 place 1"
+        "check gives refusal 2, place 2 and not refusal 2, place 1"
     );
 }
 

@@ -14,9 +14,11 @@ use Rattle.book.specs.Verdicts.{Accepted, checkResult}
 unfoldable pub rowOf : List ℕ → ℕ → ℕ → List ℕ
 rowOf b s r = tab (widthOf b s) (λ j. byteAt b (rowPlace b s r + j))
 
+-- sheet s: the columns of its entry, and its rows
 unfoldable pub sheetOf : List ℕ → ℕ → Sheet
 sheetOf b s = record { columns = tab (widthOf b s) (columnOf b s); rows = tab (rowsOf b s) (rowOf b s) }
 
+-- the book: V of each of the C columns, and the S sheets
 unfoldable pub bookOf : List ℕ → Book
 bookOf b = record { counts = tab (columnsOf b) (valuesOf b); sheets = tab (sheetsOf b) (sheetOf b) }
 
@@ -26,5 +28,6 @@ pub record AcceptedBook (b : List ℕ) : Type 0 where
   -- "Accepted: C × 16 + S."
   pub figure : checkResult b ≡ columnCount (bookOf b) * 16 + length (bookOf b .sheets)
 
+-- the claim, of every byte string
 abbrev pub AcceptedWellFormed : Type 0
 AcceptedWellFormed = (b : List ℕ) → Accepted b → AcceptedBook b

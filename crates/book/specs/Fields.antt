@@ -5,6 +5,7 @@ use Prim.Native.Nat.{ℕ, _+_, _*_}
 use lib.Dec.{ltb, eqb}
 use lib.ListN.{getD}
 
+-- byte i, or 0 past the end
 abbrev pub byteAt : List ℕ → ℕ → ℕ
 byteAt b i = getD b i 0
 

@@ -37,9 +37,11 @@ boundOf b s r j = cond (ltb r (rowsOf b s)) (placeBound b s j) 1
 unfoldable pub wrongByte : List ℕ → ℕ → ℕ → ℕ → Bool
 wrongByte b s q i = leb (boundOf b s (127 * q + i / 4) (i % 4)) (byteAt b (512 * (firstBlock b s + q) + i))
 
+-- some byte of block q of sheet s is wrong
 unfoldable pub wrongBlock : List ℕ → ℕ → ℕ → Bool
 wrongBlock b s q = anyBelow 508 (wrongByte b s q)
 
+-- some block of sheet s is
 unfoldable pub wrongSheet : List ℕ → ℕ → Bool
 wrongSheet b s = anyBelow (blocksOf b s) (wrongBlock b s)
 

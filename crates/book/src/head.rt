@@ -8,6 +8,7 @@ ghost use Rattle.book.specs.Head.{columnsOf, sheetsOf, valuesOf, widthOf
 
 // ---- the fields
 
+// The number of columns.
 pub fn columns(h: &[u8]) -> usize
     requires { ⌜ 512 ≤ length (now h) ⌝ }
     ensures { λ r. ⌜ (r ≡ columnsOf (now (h .entry))) × (r < 256) ⌝ }
@@ -15,6 +16,7 @@ pub fn columns(h: &[u8]) -> usize
     wide(h[4])
 }
 
+// The number of sheets.
 pub fn sheets(h: &[u8]) -> usize
     requires { ⌜ 512 ≤ length (now h) ⌝ }
     ensures { λ r. ⌜ (r ≡ sheetsOf (now (h .entry))) × (r < 256) ⌝ }
@@ -55,7 +57,7 @@ pub fn rows(h: &[u8], s: usize) -> usize
     wide(h[at]) + wide(h[at + 1]) * 256
 }
 
-// ---- what is wrong in a field
+// ---- what is wrong in a field: each function has the name of its definition in specs/Head.antt, where the paper's sentence stands
 
 fn wrong_letters(h: &[u8]) -> bool
     requires { ⌜ 512 ≤ length (now h) ⌝ }

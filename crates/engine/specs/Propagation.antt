@@ -26,6 +26,7 @@ isOpen D c = ltb 1 (size (getD D c 0))
 abbrev pub closureIn : List ℕ → List ℕ → List ℕ
 closureIn b D = closure (bookOf b) (storeIn b D)
 
+-- the four arrays as a state of the model
 abbrev pub arrays : List ℕ → List ℕ → List ℕ → List ℕ → Arrays
 arrays D W X N = record { doms = D; words = W; index = X; limits = N }
 

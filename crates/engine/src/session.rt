@@ -1,4 +1,5 @@
-// A session: the state, the depth, and the state saved at each mark. Each order takes it and gives it back.
+// A session: the state, the depth, and the state saved at each mark. Each order takes it and gives it back. Its method `step`, one order of
+// 8 bytes, stands in orders.rt.
 //
 //     now      the state of the trail
 //     depth    the number of marks that stand

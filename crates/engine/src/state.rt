@@ -7,6 +7,8 @@
 //
 // Always: the domains are the closure of what the trail allows; a row is set exactly when it is valid in them; position i of a sheet's index
 // is below `limit` exactly when the word that it names is not zero. In a failed state all domains and words are zero.
+//
+// Arguments `first` and `mask` are the book's layout (layout.rt): the byte where each sheet's rows begin, and each sheet's columns as a mask.
 use crate::propagate::*;
 use crate::worklist::*;
 ghost use mathlib.Core.Path.{_≡_};

@@ -65,7 +65,7 @@ fn read_book(space: &mut [u8]) -> usize
     n
 }
 
-// The same of the list of orders: one byte more than 256 orders have.
+// Reads the book and the orders, and runs the list. Of the orders, too, one byte more is read than the longest list has.
 fn main() {
     let mut space = io::large_buffer();
     let mut list = io::buffer();

@@ -1,5 +1,5 @@
 // lines: the text of a run, put into a buffer. No input or output belongs to this crate: a program hands it the run's number and the answers, and
-// writes the buffer out.
+// writes the buffer out. Of the kit's crate io it takes the figures of a number alone.
 //
 // Promise: `print` puts `printed` (specs/Texts.antt) at the front of the buffer: the paper's line for each answer and its last line, or the one
 // line of a refused run.

@@ -26,6 +26,7 @@ statusOf b D = cond (allFilled (columnCount b) D) (cond (assigned b D) 2 1) 0
 unfoldable pub subsumed : List ℕ → Sheet → Bool
 subsumed D s = leb (count (length (s .columns)) (λ i. ltb 1 (size (getD D (getD (s .columns) i 0) 0)))) 1
 
+-- bit s for each subsumed sheet s
 unfoldable pub subsumedBits : List ℕ → List Sheet → ℕ
 subsumedBits D [] = 0
 subsumedBits D (s ∷ ss) = oneIf (subsumed D s) + 2 * subsumedBits D ss
@@ -79,6 +80,7 @@ abbrev pub opening : Book → Answer
 opening b = showing b [] 0
 
 -- ---- whole lists
+-- the answers to a list that comes when L stands
 unfoldable pub answersFrom : Book → List Entry → List (List ℕ) → List Answer
 answersFrom b L [] = []
 answersFrom b L (o ∷ os) = answer b L o ∷ answersFrom b (push b L o) os
@@ -87,6 +89,7 @@ answersFrom b L (o ∷ os) = answer b L o ∷ answersFrom b (push b L o) os
 abbrev pub answers : Book → List (List ℕ) → List Answer
 answers b os = opening b ∷ answersFrom b [] os
 
+-- the last of them, or the answer a where the list is empty
 unfoldable pub lastFrom : Book → List Entry → Answer → List (List ℕ) → Answer
 lastFrom b L a [] = a
 lastFrom b L a (o ∷ os) = lastFrom b (push b L o) (answer b L o) os
@@ -95,6 +98,7 @@ lastFrom b L a (o ∷ os) = lastFrom b (push b L o) (answer b L o) os
 abbrev pub lastAnswer : Book → List (List ℕ) → Answer
 lastAnswer b os = lastFrom b [] (opening b) os
 
+-- how many orders of a list that comes when L stands are accepted
 unfoldable pub acceptedFrom : Book → List Entry → List (List ℕ) → ℕ
 acceptedFrom b L [] = 0
 acceptedFrom b L (o ∷ os) = oneIf (isAccepted b L o) + acceptedFrom b (push b L o) os
@@ -117,6 +121,7 @@ unfoldable pub domainBytes : List ℕ → ℕ → List ℕ
 domainBytes D zero = []
 domainBytes D (suc n) = domainBytes D n ++ wordBytes (getD D n 0)
 
+-- an answer as its 72 bytes, as drawn above
 unfoldable pub answerBytes : Answer → List ℕ
 answerBytes a =
     a .refused ∷ a .status ∷ a .depth ∷ a .outcome ∷ a .done ∷ 0 ∷ 0 ∷ 0 ∷ domainBytes (a .shown) 16

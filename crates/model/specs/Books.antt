@@ -51,7 +51,8 @@ pub record WellFormed (b : Book) : Type 0 where
 
 -- ---- what settled means
 -- a support: a row of the sheet that is valid in B and has the value v at place i. "A row lies in a box when each of its values is in
--- its column's domain" (valid): `pick B (s .columns)` are the domains of the sheet's columns
+-- its column's domain" (valid): `pick B (s .columns)` are the domains of the sheet's columns, and `Takes` (Choices) says that the row has one
+-- value of each
 pub record Support (B : List ℕ) (s : Sheet) (i v : ℕ) : Type 0 where
   pub row : List ℕ
   pub sheet-allows : allows s row ≡ true
@@ -92,6 +93,6 @@ supportedIn B c v s =
 unfoldable pub supported : Book → List ℕ → ℕ → ℕ → Bool
 supported b B c v = allIn (b .sheets) (supportedIn B c v)
 
--- the settled domains of A
+-- the settled domains of A. That they have the value v in column c exactly when v `Stays` there is `Demand2 .stays` (Demands)
 unfoldable pub closure : Book → List ℕ → List ℕ
 closure b A = closureOf (columnCount b) (supported b) A

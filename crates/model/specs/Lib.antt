@@ -1,4 +1,10 @@
 -- The definitions and statements of the model, in reading order. Nothing here is proved: the laws stand in proofs/.
+--
+--     document 01's word       the name here                  document 01's word     the name here
+--     box, sound box           store, consistent store        standing list          trail
+--     settled domains          closure                        bar, mark              checkpoint
+--     full set                 solution                       dead, decided          failed, assigned
+--     live row                 valid row                      done (of a sheet)      subsumed
 pub mod Tests
 pub mod Masks
 pub mod Stores

@@ -44,7 +44,7 @@ depth [] = 0
 depth (narrowed c m ∷ L) = depth L
 depth (checkpoint ∷ L) = suc (depth L)
 
--- "back m cuts away bar m and all after it": what stands before checkpoint m, counted from 1
+-- "back m cuts away bar m and all after it": what stands before checkpoint m, counted from 1. A back 0 is refused, so `before 0` is never asked
 unfoldable pub before : ℕ → List Entry → List Entry
 before m [] = []
 before m (narrowed c k ∷ L) = narrowed c k ∷ before m L
@@ -57,6 +57,7 @@ infix 20 refuse_if_
 pub data Cause : Type 0 where
   refuse_if_ : ℕ → Bool → Cause
 
+-- the number of the first cause that applies, or 0
 unfoldable pub firstCause : List Cause → ℕ
 firstCause [] = 0
 firstCause ((refuse n if t) ∷ cs) = cond t n (firstCause cs)
@@ -93,6 +94,7 @@ otherCauses = (refuse 20 if true) ∷ []
 unfoldable pub refusal : Book → List Entry → List ℕ → ℕ
 refusal b L o = firstCause (byKind (kind o) (narrowCauses b o) (markCauses L o) (backCauses L o) (finishCauses o) otherCauses)
 
+-- the order is accepted
 abbrev pub isAccepted : Book → List Entry → List ℕ → Bool
 isAccepted b L o = eqb (refusal b L o) 0
 
@@ -106,6 +108,7 @@ applied L o =
 unfoldable pub push : Book → List Entry → List ℕ → List Entry
 push b L o = cond (isAccepted b L o) (applied L o) L
 
+-- the trail after a list of orders that comes when L stands
 unfoldable pub trailFrom : Book → List Entry → List (List ℕ) → List Entry
 trailFrom b L [] = L
 trailFrom b L (o ∷ os) = trailFrom b (push b L o) os

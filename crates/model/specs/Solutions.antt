@@ -31,5 +31,6 @@ pub record NoSolution (b : Book) (B : List ℕ) : Type 0 where
 unfoldable pub formsRows : Book → List ℕ → Bool
 formsRows b x = allIn (b .sheets) (λ s. allows s (pick x (s .columns)))
 
+-- the first solution in B, or none: that it is `FirstSolution` is `Demand2 .found` and `.not-found` (Demands)
 unfoldable pub firstSolution : Book → List ℕ → Option (List ℕ)
 firstSolution b B = first B (formsRows b)

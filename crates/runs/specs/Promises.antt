@@ -1,5 +1,5 @@
 -- What the two equations of a run come to, in the customer's words. b, o and space are the book, the orders and the answer space handed
--- over; n is the number of orders. Proved in proofs/Promises.antt.
+-- over; n is the number of orders. Quoted are the customer's demands and document 01. Proved in proofs/Promises.antt.
 use mathlib.Core.Path.{_≡_}
 use mathlib.Core.Bool.{true}
 use mathlib.Core.Logic.{_↔_}

@@ -11,7 +11,8 @@ pub struct Pair {
     pub right: Session,
 }
 
-// Both lists run from the opening, with an answer space for each. What they have in common is demand 3, whole.
+// Both lists run from the opening, with an answer space for each. What they have in common is demand 3, whole: `Compares` (specs/Runs.antt) is
+// `Demand3` of these two lists, sessions and last answers.
 pub fn run_both(book: &[u8], xs: &[u8], ys: &[u8], a: &mut [u8], d: &mut [u8]) -> Pair
     requires { ⌜ RightInput (now book) (now xs) (length (now a)) × RightInput (now book) (now ys) (length (now d)) ⌝ }
     ensures { λ r. ⌜ Compares (now (book .entry)) (now (xs .entry)) (now (ys .entry)) (r .left) (r .right) (now (a .exit)) (now (d .exit)) ⌝ }

@@ -1,6 +1,7 @@
 // service: the calls that a customer's program makes.
 //
 // Promise: each contract gives the number returned and all that is written as equations with the definitions, for bytes of every length.
+// In a contract r is the number returned, `now (x .entry)` the bytes of x when the call begins, `now (x .exit)` those when it ends.
 // Nothing is asked of the bytes; a caller in C hands over, for each slice, a pointer and a length:
 // `len` bytes that can be read, and for the answers also written.
 //

@@ -38,6 +38,7 @@ pub record NearReadable (b : List ℕ) (base word : ℕ) : Type 0 where
   pub value : (k : ℕ) → bit k word ≡ true → byteAt b (base + 4 * k) < 32
   pub few : (k : ℕ) → bit k word ≡ true → k < 60
 
+-- r is the word cut to the rows whose byte there is in d
 pub record KeptNear (b : List ℕ) (base d word r : ℕ) : Type 0 where
   pub at : (k : ℕ) → bit k r ≡ (bit k word && bit (byteAt b (base + 4 * k)) d)
 
@@ -83,9 +84,11 @@ pub record RowThere (b : List ℕ) (at : ℕ) : Type 0 where
   pub there : at + 3 < length b
   pub value : (j : ℕ) → j < 4 → byteAt b (at + j) < 32
 
+-- the rows of the word stand at `base` and every 4 bytes from there
 pub record NearRows (b : List ℕ) (base word : ℕ) : Type 0 where
   pub at : (k : ℕ) → bit k word ≡ true → RowThere b (base + 4 * k)
 
+-- n rows stand there
 pub record RunReadable (b : List ℕ) (base n : ℕ) : Type 0 where
   pub at : (k : ℕ) → k < n → RowThere b (base + 4 * k)
 

@@ -5,6 +5,12 @@
 //! documents with a picture of it. With `-- --quick` it makes few rounds and writes nothing; with
 //! `-- --out FOLDER` it writes there. Both sides are code for plain x86-64, and all are called in turn,
 //! round by round.
+//!
+//! - What is timed: `subjects`, with the books of `shapes` and `hard`.
+//! - Who is timed: `runs` has the library and `engine` (words and packed lists), `baseline` the check,
+//!   `gecode` and `ready` Gecode. `agree` sees first that all show the same.
+//! - The timing: `measure` over `checks`, `sessions` and `lists`, each made of `contest`, `race`, `stats`.
+//! - What is shown: `measurement` is the one list of figures; `table`, `page`, `picture` and `machine`.
 
 #[forbid(unsafe_code)]
 mod agree;

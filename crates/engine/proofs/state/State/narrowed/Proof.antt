@@ -1,3 +1,5 @@
+-- Each fact that the prover needs of `narrowed`, by its name. `c` is the place in the code where it is needed, `c .before` the place before it,
+-- and `.pre` what the function requires. mul-d and array-read-d: `dom[c]` lies in its array. returns, returns-2, returns-3: the three ways out.
 use Prim.Native.Nat.{_<_}
 use borrow.Author.Needs.{needs}
 use Rattle.model.proofs.Tests.{positive}

@@ -1,3 +1,5 @@
+-- As in the proof of `narrowed`. The first six facts: `dom[c]` lies in its array, `1u32 << c` in 32 bits. Then what `settle` requires
+-- (narrow-ready), and what the state is when it is over (state-settled).
 use Prim.Native.Nat.{_<_}
 use native.Mathlib.Omega.{arith}
 use borrow.Author.Needs.{needs}

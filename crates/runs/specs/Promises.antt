@@ -75,7 +75,7 @@ pub record AcceptedRun (b o S : List ℕ) (n accepted : ℕ) : Type 0 where
   pub not-found : (i : ℕ) → i ≤ n → IsFinish o S i → (byteOf S i 3 ≡ 2) ↔ NoSolution (bookOf b) (domains (bookOf b) (standing b o i))
   pub first : (i : ℕ) → i ≤ n → IsFinish o S i → (x : List ℕ) → FirstSolution (bookOf b) (domains (bookOf b) (standing b o i)) x
       → (c : ℕ) → c < columnCount (bookOf b) → domainOf S i c ≡ 2 ^ getD x c 0
-  -- "zero from C on"
+  -- "zero from C on"; of any other answer this follows from `stays`, since no value past the last column is allowed
   pub past : (i : ℕ) → i ≤ n → IsFinish o S i → (c : ℕ) → columnCount (bookOf b) ≤ c → c < 16 → domainOf S i c ≡ 0
   -- "or zeros for none"
   pub zeros : (i : ℕ) → i ≤ n → IsFinish o S i → NoSolution (bookOf b) (domains (bookOf b) (standing b o i)) → (c : ℕ) → c < 16 → domainOf S i c ≡ 0

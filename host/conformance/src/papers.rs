@@ -1,4 +1,5 @@
-//! The papers' own books: K7 of document 01, and document 002's walk-through.
+//! The papers' own books: K7 of document 01, the scope paper, and the walk-through of document 002, one of
+//! the source papers that it names.
 
 use crate::{narrow, Book, Order, Sheet};
 

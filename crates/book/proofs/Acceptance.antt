@@ -8,7 +8,7 @@ use Rattle.book.specs.Verdicts.{verdict, checkResult}
 use Rattle.book.specs.Decoding.{rowOf, sheetOf, bookOf}
 use Rattle.book.specs.Acceptance.{sealed, HarbourFacts, BlockFacts, FieldFacts, RowFacts}
 
--- opens every definition that an example computes with
+-- opens every definition that an example computes with; where one is missing, the example fails uncomputed, and not with `true` against `false`
 unfoldable pub computing : Unit {0}
 unfolding anyBelow sum lowest tab wrongLength wordSum checkOf wrongCheck firstWrongCheck wrongLetters wrongColumns wrongSheets wrongValues wrongWidth notRising wrongColumn wrongRows wrongInEntry wrongEntry wrongField firstWrongField blocksOf firstBlock blocksNeeded rowPlace placeBound boundOf wrongByte wrongBlock wrongSheet kindOf faultAt faultInBlock faultInSheet firstFault verdict checkResult rowOf sheetOf bookOf sealed
 computing = tt

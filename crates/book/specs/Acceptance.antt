@@ -77,6 +77,7 @@ pub record BlockFacts : Type 0 where
   pub last-word : checkOf (set (padded []) 504 1) 0 ≡ 2
 
 -- each field of H's head: letters, C, S, zeros, V, width, column numbers, byte 5, rows, an entry from S on, the last zero
+-- (the definition of a new field also joins `computing` in proofs/Acceptance.antt: the examples compute only what is opened there)
 pub record FieldFacts : Type 0 where
   pub right : firstWrongField head ≡ 508
   pub letters : wrongField (set head 3 50) 0 ≡ true

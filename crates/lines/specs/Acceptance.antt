@@ -3,15 +3,10 @@ use mathlib.Core.Path.{_≡_}
 use mathlib.Core.List.{List, [], _∷_, _++_}
 use Prim.Native.Nat.{ℕ}
 use lib.ListN.{replicate}
-use Rattle.model.specs.Answers.{Answer, answers, acceptedCount, answerBytes}
+use Rattle.model.specs.Answers.{acceptedCount, allBytes, answers}
 use Rattle.model.specs.Acceptance.{H, exampleOrders}
 use Rattle.book.specs.Verdicts.{refused}
 use Rattle.lines.specs.Texts.{ascii, number, answerLine, printed}
-
--- the answers one after the other, as an answer space has them
-unfoldable pub spaceOf : List Answer → List ℕ
-spaceOf [] = []
-spaceOf (a ∷ rest) = answerBytes a ++ spaceOf rest
 
 -- the seven lines of document 01, and the last
 abbrev pub exampleText : List ℕ
@@ -32,7 +27,7 @@ answer3 =
 
 pub record TextFacts : Type 0 where
   -- "On H with mark, narrow board 1, finish, back 1, back 1, narrow width 4", from the orders to the text
-  pub example : printed (acceptedCount H exampleOrders) 3 6 (spaceOf (answers H exampleOrders)) ≡ exampleText
+  pub example : printed (acceptedCount H exampleOrders) 3 6 (allBytes (answers H exampleOrders)) ≡ exampleText
   pub line-3 : answerLine 3 3 answer3 ≡ ascii "3 0 1 1 3 1 1 1 1\n"
   -- "fields of several bytes have the lowest byte first"
   pub domain-bytes : answerLine 1 256 (replicate 8 0 ++ (1 ∷ 2 ∷ 0 ∷ 128 ∷ [])) ≡ ascii "256 0 0 0 0 0 2147484161\n"
@@ -41,4 +36,4 @@ pub record TextFacts : Type 0 where
   pub largest : number 18446744073709551615 ≡ ascii "18446744073709551615"
   -- "257 give 10", with place 0
   pub list-refused : printed (refused 10 0) 3 256 [] ≡ ascii "refused 10 0\n"
-  pub book-refused : printed (refused 3 30) 3 6 (spaceOf (answers H exampleOrders)) ≡ ascii "refused 3 30\n"
+  pub book-refused : printed (refused 3 30) 3 6 (allBytes (answers H exampleOrders)) ≡ ascii "refused 3 30\n"

@@ -126,6 +126,11 @@ unfoldable pub answerBytes : Answer → List ℕ
 answerBytes a =
     a .refused ∷ a .status ∷ a .depth ∷ a .outcome ∷ a .done ∷ 0 ∷ 0 ∷ 0 ∷ domainBytes (a .shown) 16
 
--- "answer i is written into bytes 72 × i to 72 × i + 71": answer i of an answer space
+-- "answer i is written into bytes 72 × i to 72 × i + 71": answers as bytes, one after the other
+unfoldable pub allBytes : List Answer → List ℕ
+allBytes [] = []
+allBytes (a ∷ xs) = answerBytes a ++ allBytes xs
+
+-- answer i of an answer space
 abbrev pub answerAt : List ℕ → ℕ → List ℕ
 answerAt space i = take 72 (drop (72 * i) space)

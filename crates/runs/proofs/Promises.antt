@@ -12,7 +12,7 @@ use lib.Dec.{eqb, leb, ltb}
 use lib.ListN.{drop, getD, length}
 use lib.Seq.{getD-append-add, getD-drop, getD-take}
 use borrow.Author.Tests.{eqb-false, eqb-true, le-leb, le-ltb, leb-false, leb-true, lt-leb, lt-ltb, ltb-false, ne-eqb}
-use Rattle.model.specs.Answers.{Answer, acceptedCount, acceptedFrom, answer, answerBytes, answers, doneOf, opening, showing, statusOf}
+use Rattle.model.specs.Answers.{Answer, acceptedCount, acceptedFrom, allBytes, answer, answerBytes, answers, doneOf, opening, showing, statusOf}
 use Rattle.model.specs.Books.{Book, Fails, Stays, WellFormed, columnCount}
 use Rattle.model.specs.Demands.{ShowsFinish, ShowsState}
 use Rattle.model.specs.Masks.{bit}
@@ -34,7 +34,7 @@ use Rattle.engine.specs.Lists.{orderAt, ordersOf, ordersTo}
 use Rattle.engine.proofs.Lists.{orders-more, tab-last}
 use Rattle.runs.specs.Promises.{AcceptedRun, AcceptedRuns, AnyRun, AnyRuns, IsFinish, byteOf, domainOf, standing}
 use Rattle.runs.specs.Results.{RightInput, runRefusal, runResult, runSpace, spaceNeeded, wrongList}
-use Rattle.runs.specs.Spaces.{allBytes, written}
+use Rattle.runs.specs.Spaces.{written}
 use Rattle.runs.proofs.Reading.{answer-depth, domain-back, map-out, shown-small}
 use Rattle.runs.proofs.Runs.{accepted-few, answers-at, length-answers}
 use Rattle.runs.proofs.Spaces.{answer-part, length-all, length-written}

@@ -11,7 +11,7 @@ use lib.Dec.{eqb, leb, ltb}
 use lib.ListN.{List·getD-append, getD, length}
 use lib.Seq.{getD-at}
 use borrow.Author.Tests.{eq-eqb, eqb-false, eqb-true, ne-eqb}
-use Rattle.model.specs.Answers.{Answer, acceptedCount, acceptedFrom, answer, answerAt, answerBytes, answers, answersFrom, finishing, lastFrom, opening, outcomeOf, showing, solutionMasks}
+use Rattle.model.specs.Answers.{Answer, acceptedCount, acceptedFrom, allBytes, answer, answerAt, answerBytes, answers, answersFrom, finishing, lastFrom, opening, outcomeOf, showing, solutionMasks}
 use Rattle.model.specs.Books.{Book, columnCount}
 use Rattle.model.specs.Demands.{Gives, HoldsDomains}
 use Rattle.model.specs.Orders.{Entry, argument, depth, domains, isAccepted, kind, mask, nonzero, outside, push, refusal, trail, trailFrom}
@@ -34,7 +34,7 @@ use Rattle.search.specs.declared.Found.{Found}
 use Rattle.answers.specs.Parts.{finishAnswer, over, stateAnswer}
 use Rattle.answers.proofs.States.{finish-answer, state-answer}
 use Rattle.runs.specs.Runs.{AnswersAt, Compares, EnginesCompare, FinishesAt, RanTo, ShowsAt, current}
-use Rattle.runs.specs.Spaces.{Adds, allBytes, written}
+use Rattle.runs.specs.Spaces.{Adds, written}
 use Rattle.runs.proofs.Spaces.{adds, answer-part, length-written, written-over}
 
 length-from : (b : Book) (L : List Entry) (os : List (List ℕ)) → length (answersFrom b L os) ≡ length os

@@ -6,10 +6,10 @@ use native.Mathlib.Nat.{le-of-suc-le-suc}
 use native.Mathlib.Omega.{arith}
 use lib.ListN.{drop, getD, length, length-append, length-drop, take}
 use lib.Seq.{drop-append-add, drop-at, drop-drop, take-at}
-use Rattle.model.specs.Answers.{Answer, answerAt, answerBytes}
+use Rattle.model.specs.Answers.{Answer, allBytes, answerAt, answerBytes}
 use Rattle.answers.specs.Parts.{over}
 use Rattle.answers.proofs.Overs.{answer-length, answer-next}
-use Rattle.runs.specs.Spaces.{Adds, allBytes, written}
+use Rattle.runs.specs.Spaces.{Adds, written}
 
 pub length-all : (xs : List Answer) → length (allBytes xs) ≡ 72 * length xs
 unfolding allBytes

@@ -4,13 +4,13 @@ use mathlib.Core.List.{List, [], _++_, append-nil}
 use Prim.Native.Nat.{_<_, _≤_, ℕ}
 use native.Mathlib.Omega.{arith}
 use lib.ListN.{drop-of-length-le, length}
-use Rattle.model.specs.Answers.{Answer, answer, answerBytes, opening}
+use Rattle.model.specs.Answers.{Answer, allBytes, answer, answerBytes, opening}
 use Rattle.book.specs.Decoding.{bookOf}
 use Rattle.engine.specs.Holds.{Holds, Refuses, SomeSession, Stepped}
 use Rattle.engine.specs.Sessions.{SomeState}
 use Rattle.engine.specs.declared.session.Session.{Session}
 use Rattle.runs.specs.Runs.{AnswersAt, Opens, Steps}
-use Rattle.runs.specs.Spaces.{Adds, allBytes}
+use Rattle.runs.specs.Spaces.{Adds}
 use Rattle.runs.proofs.Runs.{depth-small, order-adds, refuses-small}
 
 -- an answer that fills its space

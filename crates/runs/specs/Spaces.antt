@@ -6,12 +6,7 @@ use mathlib.Core.Path.{_≡_}
 use mathlib.Core.List.{List, [], _++_, _∷_}
 use Prim.Native.Nat.{_*_, _+_, _≤_, ℕ}
 use lib.ListN.{drop, length}
-use Rattle.model.specs.Answers.{Answer, answerBytes}
-
--- "answer i is written into bytes 72 × i to 72 × i + 71": answers as bytes, one after the other
-unfoldable pub allBytes : List Answer → List ℕ
-allBytes [] = []
-allBytes (a ∷ xs) = answerBytes a ++ allBytes xs
+use Rattle.model.specs.Answers.{Answer, allBytes}
 
 -- the space with these answers in front: "Later bytes of the space are untouched"
 abbrev pub written : List Answer → List ℕ → List ℕ

@@ -1,9 +1,8 @@
 -- The worked examples of the calls, by computation. Assumes nothing.
 use mathlib.Core.Path.{refl}
-use Rattle.model.specs.Answers.{domainBytes}
+use Rattle.model.specs.Answers.{allBytes, domainBytes}
 use Rattle.model.proofs.Acceptance.{computing as orders-computing}
 use Rattle.book.proofs.Acceptance.{computing}
-use Rattle.runs.specs.Spaces.{allBytes}
 use Rattle.runs.specs.Results.{runRefusal, runResult, runSpace, wrongList}
 use Rattle.service.specs.Acceptance.{CheckFacts, RunFacts}
 

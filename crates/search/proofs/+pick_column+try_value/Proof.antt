@@ -1,3 +1,4 @@
+-- Two functions that call each other, one proof. What each knows of its callees is named once (`picks`, `tries`); the values left fall.
 use mathlib.Core.Path.{refl}
 use Prim.Native.Nat.{_*_, _+_, _<_, ℕ}
 use native.Mathlib.Omega.{arith}

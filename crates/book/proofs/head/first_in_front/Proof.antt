@@ -1,3 +1,4 @@
+-- The first wrong field of bytes 0 to 7, one test after the other. Each test and each branch is one `.before`: a new field moves those behind it.
 use mathlib.Core.Path.{sym, _∙_}
 use native.Mathlib.Nat.{le-refl}
 use borrow.Author.Needs.{needs}

@@ -57,8 +57,7 @@ loop-less c = search needs
 
 loop-again : tie.Need-loop-again Inv-loop μ-loop
 loop-again c =
-    let at = c .before .before .before .before .before .before .before in
-    let l = at in
+    let l = c .before .before .before .before .before .before .before in
     let k = l .before .before .args in
     (search needs, rw (raised-more (k .b .now) (k .k) (l .loop .i) _ _ _ (c .before .word-of .ensures) (c .wrapping-add-u32 .ensures)) (finds-more _ (search needs) (l .loop .inv .1)))
 

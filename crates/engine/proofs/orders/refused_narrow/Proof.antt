@@ -1,11 +1,12 @@
 use mathlib.Core.Path.{_∙_, _≡_, refl, sym}
-use mathlib.Core.Bool.{false, true}
+use mathlib.Core.Bool.{Bool, cond, false, true}
+use mathlib.Core.List.{List}
 use Prim.Native.Nat.{_<_, _≤_}
 use native.Mathlib.Omega.{arith}
 use borrow.Author.Needs.{needs}
 use borrow.Author.Tests.{le-leb, lt-leb}
 use Rattle.model.specs.Books.{columnCount}
-use Rattle.model.specs.Orders.{argument, mask, outside}
+use Rattle.model.specs.Orders.{Entry, argument, kind, mask, outside, refusal}
 use Rattle.model.proofs.Refusals.{refusal-narrow}
 use Rattle.book.specs.Decoding.{bookOf}
 use Rattle.engine.proofs.Turns.{columns-count}
@@ -41,25 +42,26 @@ mask-of-requires c κs = search needs
 outside-column-requires : tie.Need-outside-column-requires
 outside-column-requires c κs = search needs
 
-returns-3 : tie.Need-returns-3
-returns-3 c =
-    let at-wide = c .before .before .before .before .before in
+abbrev start : tie.After-outside-column → tie.Start
+start c = c .before .before .before .before .before .before .before .before .before .before
+
+-- every earlier cause is passed over: what the last one says decides
+decided : (c : tie.After-outside-column) (t : Bool) → c .outside-column .result ≡ t → (L : List Entry) → kind (start c .args .order .now) ≡ 1
+    → cond t 22 0 ≡ refusal (bookOf (start c .args .book .now)) L (start c .args .order .now)
+decided c t f L k =
+    let at-wide = c .before .before .before .before in
     let at-if = at-wide .before .before in
-    let at-some-byte = at-if .before in
-    let start = at-some-byte .before .before .before in
-    λ L k d. let q : argument (start .args .order .now) < columnCount (bookOf (start .args .book .now)) = omega (arith, columns-count (start .args .book .now), c .before .before .before .before .columns .ensures .0, at-wide .wide .ensures .0, c .before .before .before .if2 .left) in
-    let e : outside (bookOf (start .args .book .now)) (argument (start .args .order .now)) (mask (start .args .order .now)) ≡ true = rw (← at-wide .wide .ensures .0, ← c .before .before .mask-of .ensures) (sym (c .before .outside-column .ensures) ∙ c .if3 .taken) in
-    sym (refusal-narrow _ L _ k ∙ rw (sym (at-some-byte .some-byte .ensures) ∙ at-if .if1 .left, lt-leb _ _ q, e) refl)
+    let b = start c .args .book .now in
+    let o = start c .args .order .now in
+    let q : argument o < columnCount (bookOf b) = omega (arith, columns-count b, c .before .before .before .columns .ensures .0, at-wide .wide .ensures .0, c .before .before .if2 .left) in
+    let e : outside (bookOf b) (argument o) (mask o) ≡ t = rw (← at-wide .wide .ensures .0, ← c .before .mask-of .ensures) (sym (c .outside-column .ensures) ∙ f) in
+    sym (refusal-narrow _ L _ k ∙ rw (sym (at-if .before .some-byte .ensures) ∙ at-if .if1 .left, lt-leb _ _ q, e) refl)
+
+returns-3 : tie.Need-returns-3
+returns-3 c L k d = decided (c .before) true (c .if3 .taken) L k
 
 returns-4 : tie.Need-returns-4
-returns-4 c =
-    let at-wide = c .before .before .before .before .before in
-    let at-if = at-wide .before .before in
-    let at-some-byte = at-if .before in
-    let start = at-some-byte .before .before .before in
-    λ L k d. let q : argument (start .args .order .now) < columnCount (bookOf (start .args .book .now)) = omega (arith, columns-count (start .args .book .now), c .before .before .before .before .columns .ensures .0, at-wide .wide .ensures .0, c .before .before .before .if2 .left) in
-    let e : outside (bookOf (start .args .book .now)) (argument (start .args .order .now)) (mask (start .args .order .now)) ≡ false = rw (← at-wide .wide .ensures .0, ← c .before .before .mask-of .ensures) (sym (c .before .outside-column .ensures) ∙ c .if3 .left) in
-    sym (refusal-narrow _ L _ k ∙ rw (sym (at-some-byte .some-byte .ensures) ∙ at-if .if1 .left, lt-leb _ _ q, e) refl)
+returns-4 c L k d = decided (c .before) false (c .if3 .left) L k
 
 pub refused-narrow-spec : {M : Type 1} → statement M
 refused-narrow-spec =

@@ -1,3 +1,5 @@
+-- Propagation. The invariant is `Going` (Turns): what no waiting sheet has to look at is settled. A turn looks at one sheet (`going-on`); the values left,
+-- and then the sheets that wait, fall (`going-less`); when none waits the closure is reached (`going-done`).
 use mathlib.Core.Path.{_∙_, subst⁻¹}
 use mathlib.Core.Logic.{inl}
 use Prim.Native.Nat.{_*_, _+_, ℕ}
@@ -76,29 +78,33 @@ wake-requires c κs =
       getD-set-same (head .loop .changed) (at-first-waiting .first-waiting .result) 0 0 (omega (arith, head .loop .inv .size, at-first-waiting .first-waiting .ensures .1)),
     )
 
+-- ---- a turn is over: the function's start, the loop's head, the sheet that was looked at, and the look
+abbrev start : tie.After-wake Inv-loop μ-loop → tie.Start Inv-loop μ-loop
+start c = c .before .before .before .before .before .before .before .before .before .before .before .before .before .before .before
+
+abbrev head : tie.After-wake Inv-loop μ-loop → tie.At-loop Inv-loop μ-loop
+head c = c .before .before .before .before .before .before .before .before .before .before .before .before .before
+
+abbrev sheet : tie.After-wake Inv-loop μ-loop → tie.After-first-waiting Inv-loop μ-loop
+sheet c = c .before .before .before .before .before .before .before .before .before .before .before
+
+abbrev look : tie.After-wake Inv-loop μ-loop → tie.After-revise Inv-loop μ-loop
+look c = c .before .before .before .before .before
+
+cleared : (c : tie.After-wake Inv-loop μ-loop) → Cleared (head c .loop .left) (c .before .others .result) (sheet c .first-waiting .result)
+cleared c = subst⁻¹ (λ (t : ℕ). Cleared (head c .loop .left) (c .before .others .result) t) (sheet c .first-waiting .ensures .0) (c .before .others .ensures .0)
+
 loop-less : tie.Need-loop-less Inv-loop μ-loop
 loop-less c =
-    let at-others = c .before in
-    let at-revise = at-others .before .before .before .before in
-    let at-first-waiting = at-revise .before .before .before .before .before .before in
-    let head = at-first-waiting .before .before in
-    let start = head .before .before in
-    let p = start .pre in
-    going-less _ (p .0) (p .1) (head .loop .inv) (at-first-waiting .first-waiting .ensures .2) (at-revise .revise .ensures)
-    (subst⁻¹ (λ (t : ℕ). Cleared (head .loop .left) (at-others .others .result) t) (at-first-waiting .first-waiting .ensures .0) (at-others .others .ensures .0))
-    (search needs) (omega (arith, at-others .others .ensures .1, head .loop .inv .small)) (c .wake .ensures) (at-others .others .ensures .1)
+    let p = start c .pre in
+    going-less _ (p .0) (p .1) (head c .loop .inv) (sheet c .first-waiting .ensures .2) (look c .revise .ensures) (cleared c) (search needs)
+    (omega (arith, c .before .others .ensures .1, head c .loop .inv .small)) (c .wake .ensures) (c .before .others .ensures .1)
 
 loop-again : tie.Need-loop-again Inv-loop μ-loop
 loop-again c =
-    let at-others = c .before in
-    let at-revise = at-others .before .before .before .before in
-    let at-first-waiting = at-revise .before .before .before .before .before .before in
-    let head = at-first-waiting .before .before in
-    let start = head .before .before in
-    let p = start .pre in
-    going-on _ (p .0) (p .1) (head .loop .inv) (at-first-waiting .first-waiting .ensures .2) (at-revise .revise .ensures)
-    (subst⁻¹ (λ (t : ℕ). Cleared (head .loop .left) (at-others .others .result) t) (at-first-waiting .first-waiting .ensures .0) (at-others .others .ensures .0))
-    (search needs) (omega (arith, at-others .others .ensures .1, head .loop .inv .small)) (c .wake .ensures)
+    let p = start c .pre in
+    going-on _ (p .0) (p .1) (head c .loop .inv) (sheet c .first-waiting .ensures .2) (look c .revise .ensures) (cleared c) (search needs)
+    (omega (arith, c .before .others .ensures .1, head c .loop .inv .small)) (c .wake .ensures)
 
 returns-2 : tie.Need-returns-2 Inv-loop μ-loop
 returns-2 c = going-done _ (c .before .before .before .pre .0) (c .before .before .before .pre .1) (c .before .loop .inv) (c .loop-test .left)

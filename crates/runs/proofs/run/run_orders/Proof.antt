@@ -1,3 +1,5 @@
+-- The run's loop. The invariant is `RanTo`: after i orders the session, the count and the space are those of the first i orders. `turn` has what every
+-- order's answer needs, `stepped` what the order made of the session, by whichever way it went; `more` (Runs) then adds the order.
 use mathlib.Core.Path.{_∙_, _≡_, refl}
 use mathlib.Core.Logic.{⊎-elim}
 use mathlib.Core.List.{List}

@@ -1,5 +1,5 @@
 -- Laws of masks: the places that are set. Assumes nothing.
-use mathlib.Core.Path.{_∙_, _≡_, ap, ap₂, refl, sym}
+use mathlib.Core.Path.{_∙_, _≡_, ap, ap₂, refl, subst⁻¹, sym}
 use mathlib.Core.Bool.{Bool, _&&_, _||_, false, false≢true, not, true, true≢false}
 use mathlib.Core.Logic.{_⊎_, inl, inr}
 use Prim.Native.Nat.{_%_, _*_, _+_, _-_, _/_, _<_, _^_, _≤_, max, min, suc, zero, ℕ}
@@ -251,3 +251,7 @@ size-many x p h = go (cleared 32 x p h) (lowest-lt 32 x p h) (either (eqb (bitAn
         let s = some-bit 32 y (lt-of-le-of-lt (and-le-l x (x - 1)) h) (positive y (eqb-false y 0 e)) in
         let ne : s .0 ≡ trailingZeros 32 x → ⊥ = λ q. true≢false (sym (s .2) ∙ ap (λ (v : ℕ). bit v (bitAnd x (x - 1))) q ∙ f .gone) in
         lt-ltb 1 (size x) (two-count 32 (λ v. bit v x) (s .0) (trailingZeros 32 x) (s .1) l (sym (f .rest (s .0) ne) ∙ s .2) (f .here) ne) ∙ sym (ap not e)
+
+-- the place that was cleared, by another name
+pub cleared-at : {x y s t : ℕ} → s ≡ t → Cleared x y t → Cleared x y s
+cleared-at {x} {y} e c = subst⁻¹ (Cleared x y) e c

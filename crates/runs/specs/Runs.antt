@@ -27,7 +27,9 @@ FinishesAt b st d i space space′ =
 
 -- answer i is that to the order x with the refusal r or 0, which left the state st at depth d
 pub record AnswersAt (b x : List ℕ) (r : ℕ) (st : State) (d i : ℕ) (space space′ : List ℕ) : Type 0 where
+  -- "for an accepted finish 1 found, 2 none": it shows what it finds
   pub finish : r ≡ 0 → kind x ≡ 4 → FinishesAt b st d i space space′
+  -- any other order shows the state, "A refused order … the unchanged state"
   pub other : (r ≡ 0 → kind x ≡ 4 → ⊥) → ShowsAt b st d r i space space′
 
 -- ---- a whole list

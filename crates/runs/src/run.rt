@@ -66,15 +66,6 @@ fn wrong_list(orders: &[u8]) -> bool
     orders.len() % 8 != 0
 }
 
-// How many orders are accepted, of an accepted book, a right list and a space that is long enough.
-fn run_right(book: &[u8], orders: &[u8], answers: &mut [u8]) -> u64
-    requires { ⌜ RightInput (now book) (now orders) (length (now answers)) ⌝ }
-    ensures { λ r. ⌜ (r ≡ runResult (now (book .entry)) (now (orders .entry)) (length (now (answers .entry)))) × (now (answers .exit) ≡ runSpace (now (book .entry)) (now (orders .entry)) (now (answers .entry))) ⌝ }
-{
-    let r = run_orders(book, orders, answers);
-    r.accepted
-}
-
 // The number of a run, and its answers.
 pub fn run(book: &[u8], orders: &[u8], answers: &mut [u8]) -> u64
     ensures { λ r. ⌜ (r ≡ runResult (now (book .entry)) (now (orders .entry)) (length (now (answers .entry)))) × (now (answers .exit) ≡ runSpace (now (book .entry)) (now (orders .entry)) (now (answers .entry))) ⌝ }
@@ -90,5 +81,6 @@ pub fn run(book: &[u8], orders: &[u8], answers: &mut [u8]) -> u64
     if answers.len() < needed {
         return 720896 + (needed as u64);
     }
-    run_right(book, orders, answers)
+    let r = run_orders(book, orders, answers);
+    r.accepted
 }

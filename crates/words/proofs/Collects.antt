@@ -19,7 +19,7 @@ use Rattle.model.proofs.Tests.{and-l, and-r, and-true, below, either, or-e, or-
 use Rattle.book.specs.Fields.{byteAt}
 use Rattle.words.specs.Cells.{Gathered, GatheredNear, GatheredOf, Joined, NearRows, PastRun, Readable, RunOf, SmallSets, cellAt, fourOf, nearPlace}
 use Rattle.words.proofs.Ones.{below-lowest, complement, ones-shifted}
-use Rattle.words.proofs.Walks.{Part, far-bits, four-all, near-bits, near-same, split}
+use Rattle.words.proofs.Walks.{Part, far-bits, four-all, near-bits, near-same, part-cleared, split}
 
 one-row : (cell : ℕ → ℕ → ℕ) (t : ℕ) {g h : List ℕ} → ((j : ℕ) → j < 4 → getD h j 0 ≡ bitOr (getD g j 0) (2 ^ cell t j)) → GatheredOf cell (λ k. eqb k t) g h
 one-row cell t {g} {h} e = record {
@@ -165,6 +165,17 @@ passed-turn {word} {left} {rest} {t} p c k =
     split k t
     (λ z. rw (z, c .gone, c .here, p .at t (c .here), eq-eqb t t refl) refl)
     (λ n. rw (c .rest k n, ne-eqb k t n) (sym (or-false (bit k word && not (bit k left)))))
+
+-- the lowest row that is left, gathered
+pub of-turn : (cell : ℕ → ℕ → ℕ) {f : List ℕ} {word left rest t : ℕ} (g0 g1 g2 g3 h0 h1 h2 h3 : ℕ) → Part left word → Cleared left rest t
+    → GatheredOf cell (passed word left) f (fourOf g0 g1 g2 g3) → h0 ≡ bitOr g0 (2 ^ cell t 0) → h1 ≡ bitOr g1 (2 ^ cell t 1) → h2 ≡ bitOr g2 (2 ^ cell t 2)
+    → h3 ≡ bitOr g3 (2 ^ cell t 3) → GatheredOf cell (passed word rest) f (fourOf h0 h1 h2 h3) × Part rest word
+of-turn cell {f} {word} {left} {rest} {t} g0 g1 g2 g3 h0 h1 h2 h3 p c q e0 e1 e2 e3 =
+    (of-row cell t g0 g1 g2 g3 h0 h1 h2 h3 (passed-turn p c) q e0 e1 e2 e3, part-cleared c p)
+
+-- none is left: every row of the word was
+pub of-all : (cell : ℕ → ℕ → ℕ) {f g : List ℕ} (word : ℕ) {left : ℕ} → left ≡ 0 → GatheredOf cell (passed word left) f g → GatheredOf cell (λ k. bit k word) f g
+of-all cell word e h = of-same cell (λ i. ap (λ (m : ℕ). passed word m i) e ∙ passed-end word i) h
 
 -- the first n rows
 pub run-none : (k : ℕ) → ltb k 0 ≡ false

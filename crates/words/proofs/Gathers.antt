@@ -84,15 +84,19 @@ covered-sets x y p q e =
           (c .at 2 v (omega arith)) (c .at 3 v (omega arith)) j l;
     }
 
-pub no-sets : SmallSets (replicate 4 0)
-no-sets = record { size = refl; fits = few }
+-- four sets that are the same
+pub same-sets : (x : ℕ) → x < 2 ^ 32 → SmallSets (replicate 4 x)
+same-sets x l = record { size = refl; fits = each }
   where
-    few : (j : ℕ) → getD (replicate 4 0) j 0 < 2 ^ 32
-    few zero = omega arith
-    few (suc zero) = omega arith
-    few (suc (suc zero)) = omega arith
-    few (suc (suc (suc zero))) = omega arith
-    few (suc (suc (suc (suc j)))) = omega arith
+    each : (j : ℕ) → getD (replicate 4 x) j 0 < 2 ^ 32
+    each zero = l
+    each (suc zero) = l
+    each (suc (suc zero)) = l
+    each (suc (suc (suc zero))) = l
+    each (suc (suc (suc (suc j)))) = omega arith
+
+pub no-sets : SmallSets (replicate 4 0)
+no-sets = same-sets 0 (omega arith)
 
 -- ---- the walk over the words
 -- every value seen is carried, and the values of the rows at positions below p have been seen

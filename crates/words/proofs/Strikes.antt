@@ -4,7 +4,7 @@ use mathlib.Core.Path.{_∙_, _≡_, ap, refl, sym}
 use mathlib.Core.Bool.{_&&_, _||_, false, false≢true, not, true}
 use mathlib.Core.Logic.{_⊎_, inl, inr}
 use mathlib.Core.List.{List}
-use Prim.Native.Nat.{_%_, _*_, _+_, _<_, _^_, _≤_, suc, zero, ℕ}
+use Prim.Native.Nat.{_%_, _*_, _+_, _<_, _^_, _≤_, ℕ}
 use native.Mathlib.Omega.{arith}
 use lib.Bits.{bitAnd, bitOr}
 use lib.Dec.{eqb}
@@ -18,6 +18,7 @@ use Rattle.model.proofs.Stores.{meet-has, meet-store, values-fall, within-refl,
 use Rattle.model.proofs.Tests.{and-i, and-l, and-r, below, either, or-false-l, or-false-r}
 use Rattle.book.specs.Head.{columnOf, widthOf}
 use Rattle.words.specs.Sheets.{AtSheet, Carries, Loses, Struck, StruckPlace, StruckTo, Supported, Wanted}
+use Rattle.words.proofs.Gathers.{same-sets}
 use Rattle.words.proofs.Indexes.{set-below}
 use Rattle.words.proofs.Places.{column-below, width-most}
 use Rattle.words.proofs.Walks.{shifted-one}
@@ -156,14 +157,7 @@ struck-all-places {b} {first} {s} a {W} {x} {y} {D} {E} w h p =
 
 -- ---- the domains of the places
 pub wanted-none : {b : List ℕ} {s : ℕ} {D x : List ℕ} → x ≡ replicate 4 1 → Wanted b s D 0 x
-wanted-none {b} {s} {D} {x} e = record { small = record { size = ap (λ (l : List ℕ). length l) e; fits = λ j. rw e (few j) }; at = λ j l. absurd (omega arith) }
-  where
-    few : (j : ℕ) → getD (replicate 4 1) j 0 < 2 ^ 32
-    few zero = omega arith
-    few (suc zero) = omega arith
-    few (suc (suc zero)) = omega arith
-    few (suc (suc (suc zero))) = omega arith
-    few (suc (suc (suc (suc j)))) = omega arith
+wanted-none {b} {s} {D} {x} e = record { small = rw e (same-sets 1 (omega arith)); at = λ j l. absurd (omega arith) }
 
 pub wanted-more : {b : List ℕ} {s n c : ℕ} {D x : List ℕ} → Wanted b s D n x → n < 4 → c ≡ columnOf b s n → IsStore 16 D → Wanted b s D (n + 1) (set x n (getD D c 0))
 wanted-more {b} {s} {n} {c} {D} {x} h l e d =

@@ -1,14 +1,15 @@
 -- Propagation. The invariant is `Going` (Turns): what no waiting sheet has to look at is settled. A turn looks at one sheet (`going-on`); the values left,
 -- and then the sheets that wait, fall (`going-less`); when none waits the closure is reached (`going-done`).
-use mathlib.Core.Path.{_∙_, subst⁻¹}
+use mathlib.Core.Path.{_∙_}
 use mathlib.Core.Logic.{inl}
-use Prim.Native.Nat.{_*_, _+_, ℕ}
+use Prim.Native.Nat.{_*_, _+_}
 use native.Mathlib.Omega.{arith}
 use lib.ListN.{length-set}
 use lib.Seq.{getD-set-same}
 use borrow.Author.Needs.{needs}
 use Rattle.model.specs.Masks.{Cleared}
 use Rattle.model.specs.Stores.{values}
+use Rattle.model.proofs.Masks.{cleared-at}
 use Rattle.engine.proofs.Turns.{Going, at-laid, going-done, going-failed, going-less, going-on, going-start}
 use Rattle.engine.proofs.propagate.propagate.Statement.{statement}
 use Rattle.engine.proofs.propagate.propagate.Tie as tie
@@ -92,7 +93,7 @@ abbrev look : tie.After-wake Inv-loop μ-loop → tie.After-revise Inv-loop μ-l
 look c = c .before .before .before .before .before
 
 cleared : (c : tie.After-wake Inv-loop μ-loop) → Cleared (head c .loop .left) (c .before .others .result) (sheet c .first-waiting .result)
-cleared c = subst⁻¹ (λ (t : ℕ). Cleared (head c .loop .left) (c .before .others .result) t) (sheet c .first-waiting .ensures .0) (c .before .others .ensures .0)
+cleared c = cleared-at (sheet c .first-waiting .ensures .0) (c .before .others .ensures .0)
 
 loop-less : tie.Need-loop-less Inv-loop μ-loop
 loop-less c =

@@ -1,7 +1,10 @@
 use mathlib.Core.Path.{_∙_, sym}
 use native.Mathlib.Omega.{arith}
+use lib.ListN.{length}
 use borrow.Author.Needs.{needs}
-use Rattle.runs.proofs.Promises.{book-refused, list-refused, right-list, space-short}
+use denote.Ref.{now}
+use Rattle.runs.specs.Results.{RightInput}
+use Rattle.runs.proofs.Promises.{book-refused, list-refused, result-accepted, right-list, right-zero, space-accepted, space-short}
 use Rattle.runs.proofs.run.run.Statement.{statement}
 use Rattle.runs.proofs.run.run.Tie as tie
 
@@ -29,16 +32,25 @@ add-result c = let l = right-list _ (sym (c .before .before .wrong-list .ensures
 returns-3 : tie.Need-returns-3
 returns-3 c = space-short _ _ _ (c .before .before .before .before .check .ensures) (c .before .before .before .if1 .left) (c .before .before .wrong-list .ensures) (c .before .if2 .left) (omega (arith, c .if3 .taken))
 
-run-right-requires : tie.Need-run-right-requires
-run-right-requires c κs =
-    let at-check = c .before .before .before .before .before in
-    record { book = rw (← at-check .check .ensures) (c .before .before .before .before .if1 .left); list = sym (c .before .before .before .wrong-list .ensures) ∙ c .before .before .if2 .left; enough = omega (arith, c .before .if3 .left) }
+-- no cause of refusal applies
+right : (c : tie.Else3) → let a = c .before .before .before .before .before .before .before .before .args in RightInput (a .book .now) (a .orders .now) (length (now (a .answers)))
+right c = record {
+  book = rw (← c .before .before .before .before .check .ensures) (c .before .before .before .if1 .left);
+  list = sym (c .before .before .wrong-list .ensures) ∙ c .before .if2 .left;
+  enough = omega (arith, c .if3 .left);
+}
+
+run-orders-requires : tie.Need-run-orders-requires
+run-orders-requires c κs = right (c .before)
 
 same-length : tie.Need-same-length
 same-length c = search needs
 
 returns-4 : tie.Need-returns-4
-returns-4 c = search needs
+returns-4 c =
+    let r = c .before .before .run-orders .ensures in
+    let e = right-zero _ _ _ (right (c .before .before .before .before)) in
+    (r .counts ∙ sym (result-accepted _ _ _ e), r .wrote ∙ sym (space-accepted _ _ _ e))
 
 pub run-spec : {M : Type 1} → statement M
 run-spec =
@@ -52,6 +64,6 @@ run-spec =
     mul-needed
     add-result
     returns-3
-    run-right-requires
+    run-orders-requires
     same-length
     returns-4)

@@ -1,11 +1,10 @@
-use mathlib.Core.Path.{_∙_, ap, subst⁻¹}
-use Prim.Native.Nat.{_*_, _+_, ℕ}
+use Prim.Native.Nat.{_*_, _+_}
 use borrow.Author.Needs.{needs}
-use Rattle.model.specs.Masks.{Cleared}
+use Rattle.model.proofs.Masks.{cleared-at}
 use Rattle.book.specs.Fields.{byteAt}
 use Rattle.words.specs.Cells.{GatheredOf, fourOf}
-use Rattle.words.proofs.Collects.{of-none, of-row, of-same, passed, passed-end, passed-start, passed-turn}
-use Rattle.words.proofs.Walks.{Part, part-cleared, whole}
+use Rattle.words.proofs.Collects.{of-all, of-none, of-turn, passed, passed-start}
+use Rattle.words.proofs.Walks.{Part, whole}
 use Rattle.words.proofs.cells.gathered_near_set.Statement.{statement}
 use Rattle.words.proofs.cells.gathered_near_set.Tie as tie
 
@@ -41,15 +40,12 @@ loop-less c = search needs
 
 loop-again : tie.Need-loop-again Inv-loop μ-loop
 loop-again c =
-    let at-with-row = c .before in
-    let head = at-with-row .before .before .before in
-    let t = subst⁻¹ (λ (t : ℕ). Cleared (head .loop .left) (c .without-lowest .result) t) (c .before .before .lowest .ensures .0) (c .without-lowest .ensures .0) in (
-      of-row _ _ _ _ _ _ _ _ _ _ (passed-turn (head .loop .inv .1) t) (head .loop .inv .0) (at-with-row .with-row .ensures .0) (at-with-row .with-row .ensures .1) (at-with-row .with-row .ensures .2) (at-with-row .with-row .ensures .3),
-      part-cleared t (head .loop .inv .1),
-    )
+    let w = c .before .with-row .ensures in
+    let l = c .before .before .before .before .loop in
+    of-turn _ _ _ _ _ _ _ _ _ (l .inv .1) (cleared-at (c .before .before .lowest .ensures .0) (c .without-lowest .ensures .0)) (l .inv .0) (w .0) (w .1) (w .2) (w .3)
 
 returns : tie.Need-returns Inv-loop μ-loop
-returns c = of-same _ (λ i. ap (λ (m : ℕ). passed (c .before .before .before .args .word) m i) (c .loop-test .left) ∙ passed-end (c .before .before .before .args .word) i) (c .before .loop .inv .0)
+returns c = of-all _ (c .before .before .before .args .word) (c .loop-test .left) (c .before .loop .inv .0)
 
 pub gathered-near-set-spec : {M : Type 1} → statement M
 gathered-near-set-spec =

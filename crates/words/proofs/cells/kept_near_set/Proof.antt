@@ -1,7 +1,5 @@
-use mathlib.Core.Path.{subst⁻¹}
-use Prim.Native.Nat.{ℕ}
 use borrow.Author.Needs.{needs}
-use Rattle.model.specs.Masks.{Cleared}
+use Rattle.model.proofs.Masks.{cleared-at}
 use Rattle.words.proofs.Walks.{Part, Walked, near-end, near-in, nearIn, part-cleared, walked-start, walked-turn, whole}
 use Rattle.words.proofs.cells.kept_near_set.Statement.{statement}
 use Rattle.words.proofs.cells.kept_near_set.Tie as tie
@@ -53,7 +51,7 @@ loop-again c =
     let at-has = c .before in
     let at-lowest = at-has .before .before .before in
     let head = at-lowest .before .before in
-    let t = subst⁻¹ (λ (t : ℕ). Cleared (head .loop .left) (c .without-lowest .result) t) (at-lowest .lowest .ensures .0) (c .without-lowest .ensures .0) in
+    let t = cleared-at (at-lowest .lowest .ensures .0) (c .without-lowest .ensures .0) in
     (walked-turn (head .loop .inv .0) t (at-has .has .ensures .1) (at-lowest .lowest .ensures .1) (near-in _ _ _ _ _ _ (c .before .before .wide32 .ensures) (at-has .has .ensures .0)), part-cleared t (head .loop .inv .1))
 
 returns : tie.Need-returns Inv-loop μ-loop

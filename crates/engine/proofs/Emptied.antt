@@ -78,7 +78,7 @@ module _ (b : List ℕ) (acc : Accepted b) where
     words = length-replicate {A = ℕ} 64 0;
     bits = λ i. rw (zeros-at 64 i) (omega arith);
     index = z .index;
-    limits = length-replicate {A = ℕ} 8 0;
+    nonzero = length-replicate {A = ℕ} 8 0;
   }
 
   pub settled-failed : {D E W X N : List ℕ} → Propagated b D E W X N false → Settled b D (replicate 16 0) (replicate 64 0) X (replicate 8 0)

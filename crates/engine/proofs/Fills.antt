@@ -140,9 +140,9 @@ pub rows-none : (b : List ℕ) {W N : List ℕ} → W ≡ replicate 64 0 → N �
 rows-none b {W} {N} e f =
     record {
       words = zero-words e;
-      limits = ap (λ (l : List ℕ). length l) f ∙ length-replicate {A = ℕ} 8 0;
+      size = ap (λ (l : List ℕ). length l) f ∙ length-replicate {A = ℕ} 8 0;
       full = λ s w l. absurd (omega arith);
-      limit = λ s l. absurd (omega arith);
+      nonzero = λ s l. absurd (omega arith);
     }
 
 pub rows-more : {b : List ℕ} {s n x : ℕ} {W W′ N : List ℕ} → FullRows b s W N → s < 8 → n ≡ rowsOf b s → FullWords W s n 8 W′
@@ -150,20 +150,20 @@ pub rows-more : {b : List ℕ} {s n x : ℕ} {W W′ N : List ℕ} → FullRows 
 rows-more {b} {s} {n} {x} {W} {W′} {N} h l e f g =
     record {
       words = f .words;
-      limits = length-set N s x ∙ h .limits;
+      size = length-set N s x ∙ h .size;
       full = λ t w k m. full t w m (below t s) k;
-      limit = λ t k. limit t (below t s) k;
+      nonzero = λ t k. at t (below t s) k;
     }
   where
     full : (t w : ℕ) → w < 8 → (t < s) ⊎ (s ≤ t) → t < s + 1 → FullWord (rowsOf b t) w (ofSheet W′ t w)
     full t w m (inl p) k = rw (f .other t w m (λ z. omega arith)) (h .full t w p m)
     full t w m (inr p) k = let z : t ≡ s = omega arith in rw (z, ← e) (f .full w m)
 
-    limit : (t : ℕ) → (t < s) ⊎ (s ≤ t) → t < s + 1 → getD (set N s x) t 0 ≡ (rowsOf b t + 63) / 64
-    limit t (inl p) k = getD-set-other N s t x 0 (λ z. omega arith) ∙ h .limit t p
-    limit t (inr p) k =
+    at : (t : ℕ) → (t < s) ⊎ (s ≤ t) → t < s + 1 → getD (set N s x) t 0 ≡ (rowsOf b t + 63) / 64
+    at t (inl p) k = getD-set-other N s t x 0 (λ z. omega arith) ∙ h .nonzero t p
+    at t (inr p) k =
         let z : t ≡ s = omega arith in
-        rw (z, getD-set-same N s x 0 (omega (arith, h .limits))) (g ∙ ap (λ (i : ℕ). (i + 63) / 64) e)
+        rw (z, getD-set-same N s x 0 (omega (arith, h .size))) (g ∙ ap (λ (i : ℕ). (i + 63) / 64) e)
 
 -- ---- the index
 pub index-more : {X : List ℕ} {n x : ℕ} → FullIndex n X → n < 64 → x ≡ n % 8 → FullIndex (n + 1) (set X n x)
@@ -193,11 +193,11 @@ module _ (b : List ℕ) (acc : Accepted b) {D W X N : List ℕ} (hd : FullDomain
 
   full-index : (s : ℕ) → s < sheetsOf b → IndexOf s W X N
   full-index s l = record {
-    few = omega (arith, hr .limit s l, rows-most b (right .head) s l);
+    few = omega (arith, hr .nonzero s l, rows-most b (right .head) s l);
     each = λ i m. omega (arith, own s i k m);
     once = λ i j m q e. sym (own s i k m) ∙ e ∙ own s j k q;
     every = λ w m. (w, m, own s w k m);
-    limit = λ i m. rw (own s i k m, hr .limit s l) (go i m (below (64 * i) (rowsOf b s)));
+    limit = λ i m. rw (own s i k m, hr .nonzero s l) (go i m (below (64 * i) (rowsOf b s)));
   }
     where
       k : s < 8
@@ -236,7 +236,7 @@ module _ (b : List ℕ) (acc : Accepted b) {D W X N : List ℕ} (hd : FullDomain
   pub full-ready : {waiting : ℕ} → waiting ≡ placesBelow (sheetsOf b) → Ready b true waiting 0 D W X N
   full-ready {waiting} e = record {
     store = record { columns = hd .size; bits = domain-bits };
-    sized = record { words = hr .words .size; bits = hr .words .fits; index = hx .size; limits = hr .limits };
+    sized = record { words = hr .words .size; bits = hr .words .fits; index = hx .size; nonzero = hr .size };
     filled = λ c l. (0, value-bit c 0 l ∙ lt-ltb 0 (valuesOf b c) (values-range b (right .head) c l .0));
     past = past;
     sheet = λ s l.

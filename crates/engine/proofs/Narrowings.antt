@@ -220,13 +220,13 @@ module _ (b : List ℕ) (acc : Accepted b) (c m : ℕ) (l : c < columnsOf b) (st
   pub state-emptied : (t : State) → Emptied st t → bitAnd (getD (st .dom) c 0) m ≡ 0 → Narrows b c m st t
   state-emptied t e z L h = record {
     holds =
-        rw (narrow-failed b acc L (h .holds) (h .store) (h .sized) c m l z, e .dom, e .live, e .index, e .limit)
-        (empty-state b acc (st .live) (st .index) (st .limit) (sheet-index b acc L (h .holds) (h .store) (h .sized)));
+        rw (narrow-failed b acc L (h .holds) (h .store) (h .sized) c m l z, e .dom, e .live, e .index, e .nonzero)
+        (empty-state b acc (st .live) (st .index) (st .nonzero) (sheet-index b acc L (h .holds) (h .store) (h .sized)));
     store = rw (e .dom) (empty-domains b acc);
-    sized = rw (e .live, e .index, e .limit) (empty-sized b acc (h .sized));
+    sized = rw (e .live, e .index, e .nonzero) (empty-sized b acc (h .sized));
   }
 
-  pub state-settled : (t : State) → Settled b (meet (st .dom) c m) (t .dom) (t .live) (t .index) (t .limit) → Narrows b c m st t
+  pub state-settled : (t : State) → Settled b (meet (st .dom) c m) (t .dom) (t .live) (t .index) (t .nonzero) → Narrows b c m st t
   state-settled t s L h = record {
     holds =
         subst (λ (E : List ℕ). StateOf (bookOf b) E (arraysOf t)) (met-closure b acc L (h .holds) (h .store) (h .sized) c m l) (s .state);

@@ -1,6 +1,6 @@
 -- Laws of the session and of one order. Assumes nothing.
 -- ---- the bytes of an order
-use mathlib.Core.Path.{_∙_, _≡_, ap, subst, subst⁻¹, sym}
+use mathlib.Core.Path.{_∙_, _≡_, ap, refl, subst, subst⁻¹, sym}
 use mathlib.Core.Bool.{Bool, _&&_, false, not, true}
 use mathlib.Core.Logic.{_⊎_, inl, inr}
 use mathlib.Core.List.{List, [], _++_, _∷_}
@@ -14,7 +14,7 @@ use lib.ListN.{getD, length, length-set, set}
 use lib.Seq.{getD-set-other, getD-set-same}
 use borrow.Author.Tests.{eq-eqb, eqb-false, eqb-true, le-leb, le-ltb, lt-leb, lt-ltb, ne-eqb}
 use Rattle.model.specs.Masks.{bit}
-use Rattle.model.specs.Orders.{Entry, argument, before, byte, checkpoint, depth, domains, kind, mask, narrowed, nonzero, outside, refusal}
+use Rattle.model.specs.Orders.{Entry, argument, before, byte, checkpoint, depth, domains, kind, mask, narrowed, nonzero, outside, push, refusal}
 use Rattle.model.specs.Tests.{NoneIn, anyBelow}
 use Rattle.model.proofs.Firsts.{none-any}
 use Rattle.model.proofs.Masks.{bit-and, bit-of-zero, some-bit}
@@ -153,29 +153,41 @@ module _ (s t : Session) where
 
 -- ---- one order
 module _ (b : List ℕ) (s : Session) (o : List ℕ) where
+  -- the session is given back as it was
+  same : ((L : List Entry) → Holds b L s → Holds b (push (bookOf b) L o) s) → Stepped b s o s
+  same g = record { holds = g; refused = λ L h n. refl; finish = λ k. refl }
+
   pub step-refused : {r : ℕ} → Refuses b (s .depth) o r → (r ≡ 0 → ⊥) → Stepped b s o s
-  step-refused f n L h =
-      subst⁻¹ (λ (M : List Entry). Holds b M s) (push-refused (bookOf b) L o (λ e. n (f L (h .deep) ∙ e))) h
+  step-refused f n =
+      same (λ L h. subst⁻¹ (λ (M : List Entry). Holds b M s) (push-refused (bookOf b) L o (λ e. n (f L (h .deep) ∙ e))) h)
 
   module _ {r : ℕ} (f : Refuses b (s .depth) o r) (z : r ≡ 0) where
     accepted : (L : List Entry) → Holds b L s → refusal (bookOf b) L o ≡ 0
     accepted L h = sym (f L (h .deep)) ∙ z
 
+    -- the order was accepted, and is no finish
+    accepted-steps : (t : Session) → (kind o ≡ 4 → ⊥) → ((L : List Entry) → Holds b L s → Holds b (push (bookOf b) L o) t) → Stepped b s o t
+    accepted-steps t n g = record { holds = g; refused = λ L h m. absurd (m (accepted L h)); finish = λ k. absurd (n k) }
+
     pub step-narrow : (t : Session) {c m : ℕ} → kind o ≡ 1 → c ≡ argument o → m ≡ mask o → NarrowHolds b c m s t → Stepped b s o t
-    step-narrow t {c} {m} k ec em n L h =
-        subst⁻¹ (λ (M : List Entry). Holds b M t) (push-narrow (bookOf b) L o k (accepted L h)) (rw (ec, em) at (n L h))
+    step-narrow t {c} {m} k ec em n =
+        accepted-steps t (λ f. omega arith)
+        (λ L h. subst⁻¹ (λ (M : List Entry). Holds b M t) (push-narrow (bookOf b) L o k (accepted L h)) (rw (ec, em) at (n L h)))
 
     pub step-mark : (t : Session) → kind o ≡ 2 → MarkHolds s t → Stepped b s o t
-    step-mark t k n L h = subst⁻¹ (λ (M : List Entry). Holds b M t) (push-mark (bookOf b) L o k (accepted L h)) (n b L h)
+    step-mark t k n =
+        accepted-steps t (λ f. omega arith)
+        (λ L h. subst⁻¹ (λ (M : List Entry). Holds b M t) (push-mark (bookOf b) L o k (accepted L h)) (n b L h))
 
     pub step-back : (t : Session) {m : ℕ} → kind o ≡ 3 → m ≡ argument o → BackHolds m s t → Stepped b s o t
-    step-back t {m} k em n L h =
-        subst⁻¹ (λ (M : List Entry). Holds b M t) (push-back (bookOf b) L o k (accepted L h)) (rw em at (n b L h))
+    step-back t {m} k em n =
+        accepted-steps t (λ f. omega arith)
+        (λ L h. subst⁻¹ (λ (M : List Entry). Holds b M t) (push-back (bookOf b) L o k (accepted L h)) (rw em at (n b L h)))
 
     -- a kind without effect
     pub step-other : (kind o ≡ 1 → ⊥) → (kind o ≡ 2 → ⊥) → (kind o ≡ 3 → ⊥) → Stepped b s o s
-    step-other p q u L h =
-        push-ind (bookOf b) L o (λ M. Holds b M s) h (λ k e. absurd (p k)) (λ k e. absurd (q k)) (λ k e. absurd (u k))
+    step-other p q u =
+        same (λ L h. push-ind (bookOf b) L o (λ M. Holds b M s) h (λ k e. absurd (p k)) (λ k e. absurd (q k)) (λ k e. absurd (u k)))
 
     -- what an accepted order tells
     module _ (h : SomeSession b s) where

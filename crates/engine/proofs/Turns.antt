@@ -133,7 +133,7 @@ module _ (b : List ℕ) {s t : ℕ} {W X N W′ X′ N′ : List ℕ} (o : OnlyS
         rw (p .unchanged (columnOf b t j) (or-false-r (bit (columnOf b t j) changed) _ z))
         (h .seen r j l (sym (set-same r l) ∙ e) m (or-false-l (bit (columnOf b t j) changed) _ z));
     indexed =
-        indexed-same (h .indexed) (λ i l. o .index t i l n) (o .limits t n) (λ w l. o .words t w l n);
+        indexed-same (h .indexed) (λ i l. o .index t i l n) (o .nonzero t n) (λ w l. o .words t w l n);
   }
 
 -- ---- the invariant
@@ -239,7 +239,7 @@ module _ (b : List ℕ) (acc : Accepted b) where
           indexed t l (inl e) = rw (eqb-true t s e) (r .known .indexed)
           indexed t l (inr e) =
               let n = eqb-false t s e in
-              indexed-same (h .sheet t l .indexed) (λ i m. r .only .index t i m n) (r .only .limits t n) (λ w m. r .only .words t w m n)
+              indexed-same (h .sheet t l .indexed) (λ i m. r .only .index t i m n) (r .only .nonzero t n) (λ w m. r .only .words t w m n)
 
       module _ {rest : ℕ} {G′ : List ℕ} {left′ : ℕ} (c : Cleared left rest s) (open-sheet : 0 < getD N′ s 0) (small : rest < 256) (w : Woken M s lost (set G s 0) rest G′ left′) where
         rest-bit : (t : ℕ) → (t ≡ s → ⊥) → bit t rest ≡ bit t left

@@ -11,10 +11,10 @@ use Rattle.engine.specs.declared.state.State.{State}
 
 -- what stands past the last saved state
 abbrev pub noState : State
-noState = record { dom = []; live = []; index = []; limit = [] }
+noState = record { dom = []; live = []; index = []; nonzero = [] }
 
 -- the session s over the book b when the trail L stands: its state is that of L, its depth the number of checkpoints, and for each checkpoint
--- it has saved the state of the trail before it: domains, words, index and limits
+-- it has saved the state of the trail before it: domains, words, index and counts
 pub record Holds (b : List ℕ) (L : List Entry) (s : Session) : Type 0 where
   pub current : StateIs b L (s .now)
   pub deep : s .depth ≡ depth L
@@ -48,6 +48,11 @@ RefusesKind b k d o r = (L : List Entry) → kind o ≡ k → d ≡ depth L → 
 abbrev pub Refuses : List ℕ → ℕ → List ℕ → ℕ → Type 0
 Refuses b d o r = (L : List Entry) → d ≡ depth L → r ≡ refusal (bookOf b) L o
 
--- whatever trail stood, what the order o makes of it stands
-abbrev pub Stepped : List ℕ → Session → List ℕ → Session → Type 0
-Stepped b s o t = (L : List Entry) → Holds b L s → Holds b (push (bookOf b) L o) t
+-- "A session is one value that each order takes and gives back": the order o takes s and gives back t
+pub record Stepped (b : List ℕ) (s : Session) (o : List ℕ) (t : Session) : Type 0 where
+  -- whatever trail stood, what the order makes of it stands
+  pub holds : (L : List Entry) → Holds b L s → Holds b (push (bookOf b) L o) t
+  -- "a refused order changes no domain or mark": the session is the same
+  pub refused : (L : List Entry) → Holds b L s → (refusal (bookOf b) L o ≡ 0 → ⊥) → t ≡ s
+  -- a finish: "The state stays."
+  pub finish : kind o ≡ 4 → t ≡ s

@@ -37,9 +37,9 @@ pub record FullWords (W : List ℕ) (s n m : ℕ) (W′ : List ℕ) : Type 0 whe
 -- the sheets below n have all their rows
 pub record FullRows (b : List ℕ) (n : ℕ) (W N : List ℕ) : Type 0 where
   pub words : SixtyFour W
-  pub limits : length N ≡ 8
+  pub size : length N ≡ 8
   pub full : (s w : ℕ) → s < n → w < 8 → FullWord (rowsOf b s) w (ofSheet W s w)
-  pub limit : (s : ℕ) → s < n → getD N s 0 ≡ (rowsOf b s + 63) / 64
+  pub nonzero : (s : ℕ) → s < n → getD N s 0 ≡ (rowsOf b s + 63) / 64
 
 -- the positions below n name the words in their order
 pub record FullIndex (n : ℕ) (X : List ℕ) : Type 0 where

@@ -1,4 +1,4 @@
--- What propagation starts from, and what it comes to. D, W, X, N are the arrays of domains, words, index positions and limits.
+-- What propagation starts from, and what it comes to. D, W, X, N are the arrays of domains, words, index positions and counts of words that are not zero.
 use mathlib.Core.Path.{_≡_}
 use mathlib.Core.Bool.{Bool, true, false}
 use mathlib.Core.List.{List}
@@ -28,7 +28,7 @@ closureIn b D = closure (bookOf b) (storeIn b D)
 
 -- the four arrays as a state of the model
 abbrev pub arrays : List ℕ → List ℕ → List ℕ → List ℕ → Arrays
-arrays D W X N = record { doms = D; words = W; index = X; limits = N }
+arrays D W X N = record { doms = D; words = W; index = X; nonzero = N }
 
 -- no column of the book is empty, and the columns past its last are; each sheet is known but for the columns in `column`. A sheet that does
 -- not wait has none of these, and outside the opening every value of every sheet is carried

@@ -1,5 +1,4 @@
-// One order of 8 bytes: whether it is refused, and what it makes of a session.
-use crate::session::*;
+// One order of 8 bytes: its mask, and whether it is refused.
 use crate::state::*;
 ghost use mathlib.Core.Path.{_≡_};
 ghost use Prim.Native.Nat.{_+_, _<_, _≤_};
@@ -8,8 +7,7 @@ ghost use Rattle.model.specs.Orders.{nonzero, mask, outside};
 ghost use Rattle.book.specs.Verdicts.{Accepted};
 ghost use Rattle.book.specs.Head.{columnsOf};
 ghost use Rattle.book.specs.Decoding.{bookOf};
-ghost use Rattle.engine.specs.Layouts.{LayoutOf};
-ghost use Rattle.engine.specs.Holds.{SomeSession, RefusesKind, Refuses, Stepped};
+ghost use Rattle.engine.specs.Holds.{RefusesKind, Refuses};
 
 // Whether one of the n bytes from k on is not zero.
 fn some_byte(order: &[u8], k: usize, n: usize) -> bool
@@ -122,34 +120,4 @@ pub fn refusal(book: &[u8], depth: usize, order: &[u8]) -> u32
         return refused_finish(book, depth, order);
     }
     20
-}
-
-impl Session {
-    // The session after one order; a refused one changes nothing, and a finish changes no session.
-    pub fn step(self, book: &[u8], first: &[usize; 8], mask: &[u32; 8], order: &[u8]) -> Session
-        requires { ⌜ Accepted (now book) × LayoutOf (now book) (now first) (now mask) × (length (now order) ≡ 8) × SomeSession (now book) self ⌝ }
-        ensures { λ r. ⌜ Stepped (now (book .entry)) self (now (order .entry)) r ⌝ }
-    {
-        let depth = self.depth;
-        if refusal(book, depth, order) != 0 {
-            return self;
-        }
-        let kind = order[0];
-        if kind == 1 {
-            return self.narrow(
-                book,
-                first,
-                mask,
-                book::fields::wide(order[1]),
-                mask_of(order),
-            );
-        }
-        if kind == 2 {
-            return self.mark();
-        }
-        if kind == 3 {
-            return self.back(book::fields::wide(order[1]));
-        }
-        self
-    }
 }

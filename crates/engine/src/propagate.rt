@@ -19,10 +19,10 @@ pub fn propagate(
     dom: &mut [u32; 16],
     live: &mut [u64; 64],
     index: &mut [u8; 64],
-    limit: &mut [u8; 8],
+    nonzero: &mut [u8; 8],
 ) -> bool
-    requires { ⌜ Accepted (now book) × LayoutOf (now book) (now first) (now mask) × Ready (now book) opening waiting column (now dom) (now live) (now index) (now limit) ⌝ }
-    ensures { λ r. ⌜ Propagated (now (book .entry)) (now (dom .entry)) (now (dom .exit)) (now (live .exit)) (now (index .exit)) (now (limit .exit)) r ⌝ }
+    requires { ⌜ Accepted (now book) × LayoutOf (now book) (now first) (now mask) × Ready (now book) opening waiting column (now dom) (now live) (now index) (now nonzero) ⌝ }
+    ensures { λ r. ⌜ Propagated (now (book .entry)) (now (dom .entry)) (now (dom .exit)) (now (live .exit)) (now (index .exit)) (now (nonzero .exit)) r ⌝ }
 {
     let mut changed = [column; 8];
     let mut left = waiting;
@@ -30,8 +30,18 @@ pub fn propagate(
         let s = first_waiting(left);
         let seen = changed[s];
         changed[s] = 0;
-        let lost = words::strike::revise(book, first[s], s, seen, opening, dom, live, index, limit);
-        if limit[s] == 0 {
+        let lost = words::strike::revise(
+            book,
+            first[s],
+            s,
+            seen,
+            opening,
+            dom,
+            live,
+            index,
+            nonzero,
+        );
+        if nonzero[s] == 0 {
             return false;
         }
         left = wake(mask, &mut changed, words::bits::others(left), s, lost);
@@ -40,12 +50,12 @@ pub fn propagate(
 }
 
 // Everything is emptied: no value, no row.
-fn empty(dom: &mut [u32; 16], live: &mut [u64; 64], limit: &mut [u8; 8])
-    ensures { λ r. ⌜ (now (dom .exit) ≡ replicate 16 0) × (now (live .exit) ≡ replicate 64 0) × (now (limit .exit) ≡ replicate 8 0) ⌝ }
+fn empty(dom: &mut [u32; 16], live: &mut [u64; 64], nonzero: &mut [u8; 8])
+    ensures { λ r. ⌜ (now (dom .exit) ≡ replicate 16 0) × (now (live .exit) ≡ replicate 64 0) × (now (nonzero .exit) ≡ replicate 8 0) ⌝ }
 {
     *dom = [0u32; 16];
     *live = [0u64; 64];
-    *limit = [0u8; 8];
+    *nonzero = [0u8; 8];
 }
 
 // The same; a failed store is emptied.
@@ -59,10 +69,10 @@ pub fn settle(
     dom: &mut [u32; 16],
     live: &mut [u64; 64],
     index: &mut [u8; 64],
-    limit: &mut [u8; 8],
+    nonzero: &mut [u8; 8],
 )
-    requires { ⌜ Accepted (now book) × LayoutOf (now book) (now first) (now mask) × Ready (now book) opening waiting column (now dom) (now live) (now index) (now limit) ⌝ }
-    ensures { λ r. ⌜ Settled (now (book .entry)) (now (dom .entry)) (now (dom .exit)) (now (live .exit)) (now (index .exit)) (now (limit .exit)) ⌝ }
+    requires { ⌜ Accepted (now book) × LayoutOf (now book) (now first) (now mask) × Ready (now book) opening waiting column (now dom) (now live) (now index) (now nonzero) ⌝ }
+    ensures { λ r. ⌜ Settled (now (book .entry)) (now (dom .entry)) (now (dom .exit)) (now (live .exit)) (now (index .exit)) (now (nonzero .exit)) ⌝ }
 {
     if propagate(
         book,
@@ -74,9 +84,9 @@ pub fn settle(
         dom,
         live,
         index,
-        limit,
+        nonzero,
     ) {
         return;
     }
-    empty(dom, live, limit);
+    empty(dom, live, nonzero);
 }

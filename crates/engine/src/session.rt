@@ -1,12 +1,11 @@
-// A session: the state, the depth, and the state saved at each mark. Each order takes it and gives it back. Its method `step`, one order of
-// 8 bytes, stands in orders.rt.
+// A session: the state, the depth, and the state saved at each mark. "A session is one value that each order takes and gives back."
 //
 //     now      the state of the trail
 //     depth    the number of marks that stand
 //     saved    | state before mark 1 | before mark 2 | .. | before mark `depth` | not used |
 //
 // Always, for the trail that stands: `now` is its state, `depth` its number of checkpoints, and saved state k is that of the trail cut before
-// checkpoint k + 1, with its words, index and limits.
+// checkpoint k + 1, with its words, index and counts of words.
 use crate::state::*;
 ghost use mathlib.Core.List.{[]};
 ghost use Prim.Native.Nat.{_+_, _<_, _≤_};
@@ -27,7 +26,7 @@ fn blank() -> State {
         dom: [0u32; 16],
         live: [0u64; 64],
         index: [0u8; 64],
-        limit: [0u8; 8],
+        nonzero: [0u8; 8],
     }
 }
 
@@ -65,25 +64,34 @@ impl Session {
     }
 
     // The state is saved.
-    pub fn mark(mut self) -> Session
+    pub fn mark(self) -> Session
         requires { ⌜ self .depth < 16 ⌝ }
         ensures { λ r. ⌜ MarkHolds self r ⌝ }
     {
-        let d = self.depth;
         let st = self.now;
-        self.saved[d] = st;
-        self.depth = d + 1;
-        self
+        let at = self.depth;
+        let mut saved = self.saved;
+        saved[at] = st;
+        let depth = at + 1;
+        Session {
+            now: st,
+            depth: depth,
+            saved: saved,
+        }
     }
 
     // The state saved at mark m comes back, and the mark is gone.
-    pub fn back(mut self, m: usize) -> Session
+    pub fn back(self, m: usize) -> Session
         requires { ⌜ (1 ≤ m) × (m ≤ self .depth) × (self .depth ≤ 16) ⌝ }
         ensures { λ r. ⌜ BackHolds m self r ⌝ }
     {
-        let st = self.saved[m - 1];
-        self.now = st;
-        self.depth = m - 1;
-        self
+        let at = m - 1;
+        let saved = self.saved;
+        let st = saved[at];
+        Session {
+            now: st,
+            depth: at,
+            saved: saved,
+        }
     }
 }

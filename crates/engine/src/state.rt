@@ -1,12 +1,12 @@
 // A state: the domains, and for each sheet its valid rows in words, with their index.
 //
-//     dom     | column 0: values left, bit v for value v | column 1 | .. | column 15 |            0 from the book's last column on
-//     live    | sheet 0: 8 words, bit r mod 64 of word r div 64 is row r | sheet 1: 8 words | ..
-//     index   | sheet 0: 8 word numbers, a permutation | sheet 1 | ..
-//     limit   | sheet 0: how many of its words are not zero (one more than the limit) | sheet 1 | ..
+//     dom      | column 0: values left, bit v for value v | column 1 | .. | column 15 |            0 from the book's last column on
+//     live     | sheet 0: 8 words, bit r mod 64 of word r div 64 is row r | sheet 1: 8 words | ..
+//     index    | sheet 0: 8 word numbers, a permutation | sheet 1 | ..
+//     nonzero  | sheet 0: how many of its words are not zero, one more than document 01's limit | sheet 1 | ..
 //
 // Always: the domains are the closure of what the trail allows; a row is set exactly when it is valid in them; position i of a sheet's index
-// is below `limit` exactly when the word that it names is not zero. In a failed state all domains and words are zero.
+// is below `nonzero` exactly when the word that it names is not zero. In a failed state all domains and words are zero.
 //
 // Arguments `first` and `mask` are the book's layout (layout.rt): the byte where each sheet's rows begin, and each sheet's columns as a mask.
 use crate::propagate::*;
@@ -26,7 +26,7 @@ pub struct State {
     pub dom: [u32; 16],
     pub live: [u64; 64],
     pub index: [u8; 64],
-    pub limit: [u8; 8],
+    pub nonzero: [u8; 8],
 }
 
 // ---- the opening: every value and every row
@@ -84,16 +84,16 @@ fn fill_words(live: &mut [u64; 64], s: usize, n: usize)
 }
 
 // The words of every sheet.
-fn fill_rows(book: &[u8], live: &mut [u64; 64], limit: &mut [u8; 8])
-    requires { ⌜ Accepted (now book) × (now live ≡ replicate 64 0) × (now limit ≡ replicate 8 0) ⌝ }
-    ensures { λ r. ⌜ FullRows (now (book .entry)) (sheetsOf (now (book .entry))) (now (live .exit)) (now (limit .exit)) ⌝ }
+fn fill_rows(book: &[u8], live: &mut [u64; 64], nonzero: &mut [u8; 8])
+    requires { ⌜ Accepted (now book) × (now live ≡ replicate 64 0) × (now nonzero ≡ replicate 8 0) ⌝ }
+    ensures { λ r. ⌜ FullRows (now (book .entry)) (sheetsOf (now (book .entry))) (now (live .exit)) (now (nonzero .exit)) ⌝ }
 {
     let n = book::head::sheets(book);
     let mut s: usize = 0;
     while s < n {
         let rows = book::head::rows(book, s);
         fill_words(live, s, rows);
-        limit[s] = ((rows + 63) / 64) as u8;
+        nonzero[s] = ((rows + 63) / 64) as u8;
         s += 1;
     }
 }
@@ -118,9 +118,9 @@ pub fn opening(book: &[u8], first: &[usize; 8], mask: &[u32; 8]) -> State
     let mut dom = [0u32; 16];
     let mut live = [0u64; 64];
     let mut index = [0u8; 64];
-    let mut limit = [0u8; 8];
+    let mut nonzero = [0u8; 8];
     fill_domains(book, &mut dom);
-    fill_rows(book, &mut live, &mut limit);
+    fill_rows(book, &mut live, &mut nonzero);
     fill_index(&mut index);
     let waiting = places_below(book::head::sheets(book));
     settle(
@@ -133,13 +133,13 @@ pub fn opening(book: &[u8], first: &[usize; 8], mask: &[u32; 8]) -> State
         &mut dom,
         &mut live,
         &mut index,
-        &mut limit,
+        &mut nonzero,
     );
     State {
         dom: dom,
         live: live,
         index: index,
-        limit: limit,
+        nonzero: nonzero,
     }
 }
 
@@ -153,7 +153,7 @@ impl State {
             dom: [0u32; 16],
             live: [0u64; 64],
             index: index,
-            limit: [0u8; 8],
+            nonzero: [0u8; 8],
         }
     }
 
@@ -167,7 +167,7 @@ impl State {
         dom[c] = d & m;
         let mut live = self.live;
         let mut index = self.index;
-        let mut limit = self.limit;
+        let mut nonzero = self.nonzero;
         let column = 1u32 << c;
         settle(
             book,
@@ -179,13 +179,13 @@ impl State {
             &mut dom,
             &mut live,
             &mut index,
-            &mut limit,
+            &mut nonzero,
         );
         State {
             dom: dom,
             live: live,
             index: index,
-            limit: limit,
+            nonzero: nonzero,
         }
     }
 

@@ -54,6 +54,16 @@ placed [] i l = absurd (not-suc-le-zero l)
 placed (k ∷ ks) zero l = or-l _ _ (eq-eqb k k refl)
 placed (k ∷ ks) (suc i) l = or-r (eqb (getD ks i 0) k) _ (placed ks i (le-of-suc-le-suc l))
 
+-- a column has a place in the sheet, or it has none
+pub place-or-none : (cs : List ℕ) (c : ℕ)
+    → ((i : ℕ) × (i < length cs) × (getD cs i 0 ≡ c)) ⊎ ((i : ℕ) → i < length cs → getD cs i 0 ≡ c → ⊥)
+place-or-none cs c = go (either (anyIn cs (eqb c)))
+  where
+    go : (anyIn cs (eqb c) ≡ true) ⊎ (anyIn cs (eqb c) ≡ false)
+        → ((i : ℕ) × (i < length cs) × (getD cs i 0 ≡ c)) ⊎ ((i : ℕ) → i < length cs → getD cs i 0 ≡ c → ⊥)
+    go (inl e) = inl (place cs c e)
+    go (inr e) = inr (λ i l q. true≢false (sym (placed cs i l) ∙ ap (λ (k : ℕ). anyIn cs (eqb k)) q ∙ e))
+
 carries-e : (ks r : List ℕ) (c v : ℕ) → carries ks r c v ≡ true → (i : ℕ) × (i < length ks) × (getD ks i 0 ≡ c) × (getD r i 0 ≡ v)
 unfolding carries
 carries-e [] r c v e = absurd (false≢true e)
@@ -143,19 +153,22 @@ consistent-from b B d h =
           (λ s m. support-i B (d .bits) s c v (λ i l q. h .support s m i l v (rw q e)));
     }
 
+-- a support in a store is one in a wider store
+pub support-mono : (B D : List ℕ) → Within B D → (s : Sheet) (i v : ℕ) → Support B s i v → Support D s i v
+support-mono B D w s i v k =
+    record {
+      row = k .row;
+      sheet-allows = k .sheet-allows;
+      valid = takes-mono (pick B (s .columns)) (pick D (s .columns)) (k .row) (length-pick B (s .columns) ∙ sym (length-pick D (s .columns))) (pick-within B D (s .columns) w) (k .valid);
+      value = k .value;
+    }
+
 -- a store with the same values is as consistent
 pub consistent-same : (b : Book) (B D : List ℕ) → Within B D → Within D B → ConsistentStore b B → ConsistentStore b D
 consistent-same b B D w u h =
     record {
       filled = λ c l. let r = h .filled c l in (r .0, w .at c (r .0) (r .1));
-      support = λ s m i l v e.
-          let k = h .support s m i l v (u .at (getD (s .columns) i 0) v e) in
-          record {
-            row = k .row;
-            sheet-allows = k .sheet-allows;
-            valid = takes-mono (pick B (s .columns)) (pick D (s .columns)) (k .row) (length-pick B (s .columns) ∙ sym (length-pick D (s .columns))) (pick-within B D (s .columns) w) (k .valid);
-            value = k .value;
-          };
+      support = λ s m i l v e. support-mono B D w s i v (h .support s m i l v (u .at (getD (s .columns) i 0) v e));
     }
 
 -- ---- the closure of a book's store

@@ -4,29 +4,29 @@ use mathlib.Core.Bool.{Bool, true, false, not, _&&_, _||_, false≢true, true≢
 use mathlib.Core.Logic.{_⊎_, inl, inr, _↔_}
 use mathlib.Core.Option.{none, some}
 use mathlib.Core.List.{List, [], _∷_, _++_}
-use Prim.Native.Nat.{ℕ, suc, _+_, _-_, _≤_, _<_}
+use Prim.Native.Nat.{ℕ, zero, suc, _+_, _-_, _≤_, _<_}
 use native.Mathlib.Omega.{arith}
 use lib.Dec.{eqb, leb}
 use lib.ListN.{getD}
 use borrow.Author.Tests.{eqb-true, eq-eqb, ne-eqb, lt-leb}
 use Rattle.model.specs.Tests.{oneIf}
 use Rattle.model.specs.Masks.{bit}
-use Rattle.model.specs.Stores.{has, Within, IsStore, emptyStore, allFilled}
+use Rattle.model.specs.Stores.{has, IsStore, emptyStore, allFilled}
 use Rattle.model.specs.Choices.{Lower}
 use Rattle.model.specs.Books.{Book, columnCount, WellFormed, ConsistentStore, Stays, Fails, closure}
 use Rattle.model.specs.Solutions.{Solution, FirstSolution, firstSolution}
-use Rattle.model.specs.Orders.{byte, kind, argument, mask, nonzero, Entry, narrowed, outside, refusal, isAccepted, push, trailFrom, trail, allowed, domains}
-use Rattle.model.specs.Answers.{assigned, statusOf, doneOf, Answer, showing, outcomeOf, solutionMasks, finishing, answer, opening, answersFrom, lastFrom, lastAnswer, acceptedFrom, domainBytes, answerBytes}
-use Rattle.model.specs.Demands.{ChangesNothing, unrefused, Demand2, ShowsState, ShowsFinish, EveryAnswer, SameAllowed, Narrower, SameFinish, HoldsDomains, Stepped, Chain, Run, Gives, Demand3, Claim1, Claim2, Claim3}
+use Rattle.model.specs.Orders.{byte, kind, argument, mask, nonzero, Entry, narrowed, outside, refusal, isAccepted, push, trailFrom, allowed, domains}
+use Rattle.model.specs.Answers.{assigned, statusOf, doneOf, Answer, showing, outcomeOf, solutionMasks, finishing, answer, answersFrom, lastFrom, acceptedFrom, domainBytes, answerBytes}
+use Rattle.model.specs.Demands.{ChangesNothing, unrefused, Demand2, ShowsState, ShowsFinish, EveryAnswer, SameAllowed, Narrower, SameFinish, Claim1, Claim2}
 use Rattle.model.proofs.Tests.{and-l, and-r, and-i, and-false, either}
 use Rattle.model.proofs.Masks.{bit-of-zero}
-use Rattle.model.proofs.Stores.{store-ext, within-trans, empty-has, filled-e, filled-i}
+use Rattle.model.proofs.Stores.{store-ext, empty-has, filled-e, filled-i}
 use Rattle.model.proofs.Choices.{opt}
 use Rattle.model.proofs.Books.{stays-iff, fails-iff, closed-or-empty}
-use Rattle.model.proofs.Solutions.{found-iff, none-iff, has-first, solution-mono, first-same, first-wider}
+use Rattle.model.proofs.Solutions.{found-iff, none-iff, has-first, solution-mono, first-wider}
 use Rattle.model.proofs.Search.{search-first}
 use Rattle.model.proofs.Trails.{allowed-store, domains-store, domains-closed, domains-mono, narrowed-e}
-use Rattle.model.proofs.Refusals.{refusal-depth, outside-none, refusal-narrow, refusal-finish, accepted-narrow, push-refused, push-narrow, push-finish}
+use Rattle.model.proofs.Refusals.{refusal-depth, outside-none, refusal-narrow, accepted-narrow, push-refused, push-narrow, push-finish}
 
 -- ---- answers
 -- an accepted finish, and any other order
@@ -44,7 +44,7 @@ pub record Tells (b : Book) (L : List Entry) (a : Answer) : Type 0 where
   pub status : a .status ≡ statusOf b (domains b L)
   pub done : a .done ≡ doneOf b (domains b L)
 
-showing-tells : (b : Book) (L : List Entry) (r : ℕ) → Tells b L (showing b L r)
+pub showing-tells : (b : Book) (L : List Entry) (r : ℕ) → Tells b L (showing b L r)
 unfolding showing
 showing-tells b L r = record { status = refl; done = refl }
 
@@ -59,7 +59,7 @@ answer-tells b L o = go (either (eqb (kind o) 4 && isAccepted b L o))
     go (inl p) = rw (answer-finish b L o p, push-finish b L o (eqb-true _ 4 (and-l _ _ p))) (finishing-tells b L)
     go (inr q) = rw (answer-other b L o q) (showing-tells b (push b L o) (refusal b L o))
 
-last-tells : (b : Book) (os : List (List ℕ)) (L : List Entry) (a : Answer) → Tells b L a → Tells b (trailFrom b L os) (lastFrom b L a os)
+pub last-tells : (b : Book) (os : List (List ℕ)) (L : List Entry) (a : Answer) → Tells b L a → Tells b (trailFrom b L os) (lastFrom b L a os)
 unfolding lastFrom trailFrom
 last-tells b [] L a t = t
 last-tells b (o ∷ os) L a t = last-tells b os (push b L o) (answer b L o) (answer-tells b L o)
@@ -94,6 +94,18 @@ bytes-3 a = refl
 pub bytes-4 : (a : Answer) → byte (answerBytes a) 4 ≡ a .done
 unfolding answerBytes
 bytes-4 a = refl
+
+pub bytes-zero : (a : Answer) (i : ℕ) → 5 ≤ i → i ≤ 7 → byte (answerBytes a) i ≡ 0
+unfolding answerBytes
+bytes-zero a i p q =
+    let e : i ≡ suc (suc (suc (suc (suc (i - 5))))) = omega arith in
+    ap (λ (j : ℕ). byte (answerBytes a) j) e ∙ at (i - 5) (omega arith)
+  where
+    at : (k : ℕ) → k ≤ 2 → getD (0 ∷ 0 ∷ 0 ∷ domainBytes (a .shown) 16) k 0 ≡ 0
+    at zero l = refl
+    at (suc zero) l = refl
+    at (suc (suc zero)) l = refl
+    at (suc (suc (suc k))) l = absurd (omega arith)
 
 -- bytes 8 on are the domains shown
 pub bytes-8-on : (a : Answer) (i : ℕ) → 8 ≤ i → byte (answerBytes a) i ≡ getD (domainBytes (a .shown) 16) (i - 8) 0
@@ -286,7 +298,7 @@ pub same-narrower : (b : Book) (L M : List Entry) → SameAllowed b L M → Narr
 same-narrower b L M h = record { at = λ c v e. sym (h .at c v) ∙ e }
 
 -- two finishes over equal domains
-finishing-same : (b : Book) (L M : List Entry) → domains b L ≡ domains b M → SameFinish (answerBytes (finishing b L)) (answerBytes (finishing b M))
+pub finishing-same : (b : Book) (L M : List Entry) → domains b L ≡ domains b M → SameFinish (answerBytes (finishing b L)) (answerBytes (finishing b M))
 unfolding answerBytes finishing
 finishing-same b L M e =
     record {
@@ -299,101 +311,9 @@ finishing-same b L M e =
           ∙ sym (bytes-8-on (finishing b M) i p);
     }
 
--- ---- demand 3
-module _ (b : Book) (Session : Type 0) (current : Session → List ℕ) (Holds : List Entry → Session → Type 0) where
-  chain-gives : (os : List (List ℕ)) (L : List Entry) (s : Session) (a : Answer) (t : Session) (d : List ℕ)
-      → Holds L s → Chain b Session current Holds s (answerBytes a) os t d
-      → Holds (trailFrom b L os) t × (d ≡ answerBytes (lastFrom b L a os))
-  unfolding trailFrom lastFrom
-  chain-gives [] L s a t d h c = (subst (Holds L) (c .0) h, sym (c .1))
-  chain-gives (o ∷ os) L s a t d h c =
-      chain-gives os (push b L o) (c .0) (answer b L o) t d (c .2 .holds L h)
-      (subst (λ (e : List ℕ). Chain b Session current Holds (c .0) e os t d) (c .2 .says L h) (c .3))
-
-  -- a run ends with what the definitions say of its list
-  pub run-gives : (os : List (List ℕ)) (t : Session) (d : List ℕ) → Run b Session current Holds os t d → Gives b Session current Holds os t d
-  run-gives os t d r =
-      let q =
-      chain-gives os [] (r .start) (opening b) t d (r .opened .holds)
-      (subst (λ (e : List ℕ). Chain b Session current Holds (r .start) e os t d) (r .opened .says) (r .chain)) in
-      record { holds = q .0; says = q .1 }
-
-  gives-tells : (os : List (List ℕ)) → Tells b (trail b os) (lastAnswer b os)
-  gives-tells os = last-tells b os [] (opening b) (showing-tells b [] 0)
-
-  module _ (reads : HoldsDomains b Session current Holds) where
-    current-to : (L : List Entry) (s : Session) → Holds L s → Within (current s) (domains b L)
-    unfolding has
-    current-to L s h = record { at = λ c v e. rw (← reads .at L s h c) e }
-
-    current-from : (L : List Entry) (s : Session) → Holds L s → Within (domains b L) (current s)
-    unfolding has
-    current-from L s h = record { at = λ c v e. rw (reads .at L s h c) e }
-
-    pub gives-demand3 : (xs ys : List (List ℕ)) (s t : Session) (a d : List ℕ)
-        → Gives b Session current Holds xs s a → Gives b Session current Holds ys t d → Demand3 b Session current Holds xs ys s t a d
-    gives-demand3 xs ys s t a d p q =
-        record {
-          same-status = λ h. said xs s a p .0 ∙ ap (statusOf b) (same-domains b L M h) ∙ sym (said ys t d q .0);
-          same-done = λ h. said xs s a p .1 ∙ ap (doneOf b) (same-domains b L M h) ∙ sym (said ys t d q .1);
-          same-domains = λ h c.
-              reads .at L s hs c ∙ ap (λ (D : List ℕ). getD D c 0) (same-domains b L M h) ∙ sym (reads .at M t ht c);
-          same-finish = finish;
-          narrower-within = inner;
-          wider-solution = λ w x f. (x, solution-mono b (current s) (current t) x (inner w) f);
-          wider-first = firsts;
-        }
-      where
-        L : List Entry
-        L = trail b xs
-
-        M : List Entry
-        M = trail b ys
-
-        hs : Holds L s
-        hs = p .holds
-
-        ht : Holds M t
-        ht = q .holds
-
-        said : (os : List (List ℕ)) (u : Session) (e : List ℕ) → Gives b Session current Holds os u e
-            → (byte e 1 ≡ statusOf b (domains b (trail b os))) × (byte e 4 ≡ doneOf b (domains b (trail b os)))
-        said os u e g = (
-          ap (λ (l : List ℕ). byte l 1) (g .says) ∙ bytes-1 (lastAnswer b os) ∙ gives-tells os .status,
-          ap (λ (l : List ℕ). byte l 4) (g .says) ∙ bytes-4 (lastAnswer b os) ∙ gives-tells os .done,
-        )
-
-        -- an accepted finish is answered by `finishing`
-        finished : (N : List Entry) (u u′ : Session) (o e : List ℕ) → Holds N u → kind o ≡ 4
-            → Stepped b Session current Holds u o u′ e → refusal b N o ≡ 0 → e ≡ answerBytes (finishing b N)
-        finished N u u′ o e h k g z =
-            g .says N h ∙ ap answerBytes (answer-finish b N o (and-i (eq-eqb _ 4 k) (eq-eqb _ 0 z)))
-
-        -- a finish that one session accepts, the other does too: its refusal goes by its bytes
-        finish : SameAllowed b L M → (o : List ℕ) → kind o ≡ 4 → (s′ t′ : Session) (a′ d′ : List ℕ)
-            → Stepped b Session current Holds s o s′ a′ → Stepped b Session current Holds t o t′ d′
-            → byte a′ 0 ≡ 0 → SameFinish a′ d′
-        finish h o k s′ t′ a′ d′ m n u =
-            let x : refusal b L o ≡ 0 =
-            sym (claim1 b .byte-0 L o) ∙ ap (λ (l : List ℕ). byte l 0) (sym (m .says L hs)) ∙ u in
-            let y : refusal b M o ≡ 0 = refusal-finish b M o k ∙ sym (refusal-finish b L o k) ∙ x in
-            rw (finished L s s′ o a′ hs k m x, finished M t t′ o d′ ht k n y) (finishing-same b L M (same-domains b L M h))
-
-        inner : Narrower b L M → Within (current s) (current t)
-        inner w = within-trans (current-to L s hs) (within-trans (domains-mono b L M w) (current-from M t ht))
-
-        firsts : Narrower b L M → (x : List ℕ) → Solution b (current s) x
-            → (y : List ℕ) × (z : List ℕ) × FirstSolution b (current s) y × FirstSolution b (current t) z × ((z ≡ y) ⊎ Lower z y)
-        firsts w x f =
-            let y = has-first b (domains b L) (domains-store b L) x (solution-mono b (current s) (domains b L) x (current-to L s hs) f) in
-            let z = has-first b (domains b M) (domains-store b M) (y .0) (solution-mono b (domains b L) (domains b M) (y .0) (domains-mono b L M w) (y .1 .solution)) in (
-              y .0,
-              z .0,
-              first-same b (domains b L) (current s) (y .0) (current-from L s hs) (current-to L s hs) (y .1),
-              first-same b (domains b M) (current t) (z .0) (current-from M t ht) (current-to M t ht) (z .1),
-              first-wider b (domains b L) (domains b M) (y .0) (z .0) (domains-mono b L M w) (y .1) (z .1),
-            )
-
-pub claim3 : Claim3
-claim3 b Session current Holds reads xs ys s t a d p q =
-    gives-demand3 b Session current Holds reads xs ys s t a d (run-gives b Session current Holds xs s a p) (run-gives b Session current Holds ys t d q)
+-- the wider's first solution is the same as the narrower's or lower
+pub wider-first : (b : Book) (L M : List Entry) → Narrower b L M → (x : List ℕ) → FirstSolution b (domains b L) x
+    → (y : List ℕ) × FirstSolution b (domains b M) y × ((y ≡ x) ⊎ Lower y x)
+wider-first b L M w x f =
+    let y = has-first b (domains b M) (domains-store b M) x (solution-mono b (domains b L) (domains b M) x (domains-mono b L M w) (f .solution)) in
+    (y .0, y .1, first-wider b (domains b L) (domains b M) x (y .0) (domains-mono b L M w) f (y .1))

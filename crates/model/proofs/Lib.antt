@@ -12,5 +12,6 @@ pub mod Search
 pub mod Trails
 pub mod Refusals
 pub mod Rows
+pub mod OneSheet
 pub mod Demands
 pub mod Witness

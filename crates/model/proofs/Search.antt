@@ -45,6 +45,15 @@ value-has C D d c v e = lowest-e 32 (λ v. bit v (getD D c 0)) (go (below (lowes
         let k : v < 32 = in-store C D d c v e .1 in
         absurd (true≢false (sym e ∙ lowest-before 32 (λ v. bit v (getD D c 0)) v (omega arith)))
 
+-- the value of a mask that has one alone
+pub value-pow : (v : ℕ) → v < 32 → valueOf (2 ^ v) ≡ v
+unfolding has
+value-pow v l = bit-pow-only v (valueOf (2 ^ v)) (value-has 1 (2 ^ v ∷ []) (record { columns = refl; bits = bits }) 0 v (bit-pow v))
+  where
+    bits : (c : ℕ) → getD (2 ^ v ∷ []) c 0 < 2 ^ 32
+    bits zero = pow-lt l
+    bits (suc c) = omega arith
+
 -- the mask of a single column is its value alone
 pub single-mask : (C : ℕ) (D : List ℕ) → IsStore C D → (c v : ℕ) → has D c v ≡ true → eqb (size (getD D c 0)) 1 ≡ true
     → 2 ^ valueOf (getD D c 0) ≡ getD D c 0

@@ -8,7 +8,6 @@ use native.Mathlib.Nat.{le-of-suc-le-suc, le-refl, not-suc-le-zero, zero-lt-suc}
 use native.Mathlib.Omega.{arith}
 use lib.Dec.{eqb, ltb}
 use lib.ListN.{List·getD-eq-default, getD, length}
-use lib.Seq.{ext-getD}
 use borrow.Author.Tests.{eq-eqb, eqb-true, ltb-false, ltb-true}
 use Rattle.model.specs.Tests.{allBelow, allIn, anyBelow, anyIn, count, eqList, lowest, oneIf, sum, tab}
 
@@ -331,10 +330,11 @@ getD-tab d (suc n) f (suc i) h = getD-tab d n (λ j. f (suc j)) i (le-of-suc-le-
 pub getD-tab-out : (n : ℕ) (f : ℕ → ℕ) (i : ℕ) → n ≤ i → getD (tab n f) i 0 ≡ 0
 getD-tab-out n f i h = List·getD-eq-default (tab n f) 0 (omega (arith, length-tab n f))
 
-pub tab-same : (n : ℕ) (f g : ℕ → ℕ) → ((i : ℕ) → i < n → f i ≡ g i) → tab n f ≡ tab n g
-tab-same n f g h =
-    ext-getD 0 (tab n f) (tab n g) (length-tab n f ∙ sym (length-tab n g))
-    (λ i l. let k : i < n = omega (arith, length-tab n f) in getD-tab 0 n f i k ∙ h i k ∙ sym (getD-tab 0 n g i k))
+pub tab-same : {A : Type 0} (n : ℕ) (f g : ℕ → A) → ((i : ℕ) → i < n → f i ≡ g i) → tab n f ≡ tab n g
+unfolding tab
+tab-same zero f g h = refl
+tab-same {A} (suc n) f g h =
+    ap₂ (λ (x : A) (l : List A). x ∷ l) (h 0 (omega arith)) (tab-same n (λ i. f (suc i)) (λ i. g (suc i)) (λ i l. h (suc i) (omega arith)))
 
 -- ---- order
 pub positive : (x : ℕ) → (x ≡ 0 → ⊥) → 0 < x

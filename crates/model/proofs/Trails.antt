@@ -13,7 +13,7 @@ use Rattle.model.specs.Stores.{has, Within, IsStore, meet}
 use Rattle.model.specs.Closure.{Between}
 use Rattle.model.specs.Books.{Book, columnCount, supported, closure}
 use Rattle.model.specs.Orders.{Entry, narrowed, checkpoint, depth, before, isAccepted, push, trailFrom, permits, allowed, domains}
-use Rattle.model.specs.Answers.{Answer, answer, answersFrom, acceptedFrom}
+use Rattle.model.specs.Answers.{Answer, answer, answersFrom, lastFrom, acceptedFrom}
 use Rattle.model.proofs.Tests.{and-l, and-r, and-i, and-true, and-assoc}
 use Rattle.model.proofs.Stores.{has-i, has-e, storeOf-same, is-store, meet-has, meet-store}
 use Rattle.model.proofs.Closure.{closure-within, closure-store, closure-mono, between-same, closure-again}
@@ -30,6 +30,12 @@ pub answers-snoc : (b : Book) (L : List Entry) (os : List (List ℕ)) (o : List 
 unfolding answersFrom trailFrom
 answers-snoc b L [] o = refl
 answers-snoc b L (p ∷ os) o = ap (λ (l : List Answer). answer b L p ∷ l) (answers-snoc b (push b L p) os o)
+
+pub last-snoc : (b : Book) (L : List Entry) (a : Answer) (os : List (List ℕ)) (o : List ℕ)
+    → lastFrom b L a (os ++ (o ∷ [])) ≡ answer b (trailFrom b L os) o
+unfolding lastFrom trailFrom
+last-snoc b L a [] o = refl
+last-snoc b L a (p ∷ os) o = last-snoc b (push b L p) (answer b L p) os o
 
 pub accepted-snoc : (b : Book) (L : List Entry) (os : List (List ℕ)) (o : List ℕ)
     → acceptedFrom b L (os ++ (o ∷ [])) ≡ acceptedFrom b L os + oneIf (isAccepted b (trailFrom b L os) o)

@@ -1,5 +1,5 @@
--- The statements speak of something: the paper's books are well-formed, its opening state holds, and with the trail itself as the session
--- every list of orders over every book has a run. Assumes nothing.
+-- The statements speak of something: the paper's books are well-formed, its opening state holds, and a book with one sheet has stores with no
+-- empty column. Assumes nothing.
 use mathlib.Core.Path.{_∙_, _≡_, ap, refl, sym}
 use mathlib.Core.Bool.{Bool, _&&_, true}
 use mathlib.Core.Logic.{_⊎_, inl, inr, ⊎-elim}
@@ -9,15 +9,17 @@ use native.Mathlib.Omega.{arith}
 use lib.Dec.{eqb, leb, ltb}
 use lib.ListN.{getD, length}
 use borrow.Author.Tests.{eqb-true, leb-true, ltb-true}
-use Rattle.model.specs.Acceptance.{BooksWellFormed, H, H1, H2, H7, H8, H9, RowFacts, openingArrays}
-use Rattle.model.specs.Answers.{Answer, answer, answerBytes, lastAnswer, lastFrom, opening}
+use Rattle.model.specs.Acceptance.{BooksWellFormed, H, H1, H2, H7, H8, H9, RowFacts, openingArrays, sheetOf, unequal}
 use Rattle.model.specs.Books.{Book, Sheet, WellFormed, WellFormedSheet, columnCount}
-use Rattle.model.specs.Demands.{Chain, HoldsDomains, Run, Stepped}
-use Rattle.model.specs.Orders.{Entry, domains, push, trail, trailFrom}
-use Rattle.model.specs.States.{Indexed, ofSheet, sheetAt, valid, validRow, validWord}
+use Rattle.model.specs.Orders.{Entry, allowed, domains, narrowed}
+use Rattle.model.specs.States.{Indexed, OneSheet, ofSheet, sheetAt, valid, validRow, validWord}
+use Rattle.model.specs.Stores.{allFilled}
 use Rattle.model.specs.Tests.{allBelow, allIn}
 use Rattle.model.proofs.Acceptance.{computing}
+use Rattle.model.proofs.OneSheet.{oneSheets}
+use Rattle.model.proofs.Stores.{filled-e}
 use Rattle.model.proofs.Tests.{allBelow-e, allIn-e, and-l, and-r}
+use Rattle.model.proofs.Trails.{allowed-store}
 
 -- ---- well-formed books, by a test
 sheetTest : List ℕ → Sheet → Bool
@@ -87,6 +89,19 @@ booksWellFormed =
       h9 = book-well-formed H9 refl;
     }
 
+-- ---- H2 has one sheet: whatever is allowed, so long as no column is empty
+h2-sheet : (L : List Entry) → allFilled 2 (allowed H2 L) ≡ true → OneSheet H2 (sheetOf (0 ∷ 1 ∷ []) unequal) (allowed H2 L)
+h2-sheet L e = oneSheets H2 _ (allowed H2 L) (booksWellFormed .h2) refl (allowed-store H2 L) (filled-e 2 (allowed H2 L) e)
+
+-- its opening, where every row is valid, and column 0 narrowed to 1, where one is
+pub h2-opening : OneSheet H2 (sheetOf (0 ∷ 1 ∷ []) unequal) (allowed H2 [])
+unfolding computing
+h2-opening = h2-sheet [] refl
+
+pub h2-narrowed : OneSheet H2 (sheetOf (0 ∷ 1 ∷ []) unequal) (allowed H2 (narrowed 0 2 ∷ []))
+unfolding computing
+h2-narrowed = h2-sheet (narrowed 0 2 ∷ []) refl
+
 -- ---- the opening state of H
 -- an index that lists the words in order, of which the first alone is not zero
 first-indexed : (index word : ℕ → ℕ) → allBelow 8 (λ i. eqb (index i) i) ≡ true → 0 < word 0 → allBelow 7 (λ i. eqb (word (suc i)) 0) ≡ true
@@ -128,39 +143,7 @@ rowFacts =
       narrowed-1 = refl;
     }
   where
-    indexed : (s : ℕ) → s < 2 → Indexed (ofSheet (openingArrays .index) s) (getD (openingArrays .limits) s 0) (ofSheet (openingArrays .words) s)
+    indexed : (s : ℕ) → s < 2 → Indexed (ofSheet (openingArrays .index) s) (getD (openingArrays .nonzero) s 0) (ofSheet (openingArrays .words) s)
     indexed zero l = first-indexed (ofSheet (openingArrays .index) 0) (ofSheet (openingArrays .words) 0) refl (omega arith) refl
     indexed (suc zero) l = first-indexed (ofSheet (openingArrays .index) 1) (ofSheet (openingArrays .words) 1) refl (omega arith) refl
     indexed (suc (suc s)) l = absurd (omega arith)
-
--- ---- runs: the trail itself is a session
-abbrev pub TrailHolds : List Entry → List Entry → Type 0
-TrailHolds L M = M ≡ L
-
-module _ (b : Book) where
-  pub trail-reads : HoldsDomains b (List Entry) (domains b) TrailHolds
-  trail-reads = record { at = λ L M h c. rw h }
-
-  trail-steps : (L : List Entry) (o : List ℕ)
-      → Stepped b (List Entry) (domains b) TrailHolds L o (push b L o) (answerBytes (answer b L o))
-  trail-steps L o =
-      record {
-        holds = λ M h. ap (λ (X : List Entry). push b X o) h;
-        says = λ M h. ap (λ (X : List Entry). answerBytes (answer b X o)) h;
-      }
-
-  trail-chain : (os : List (List ℕ)) (L : List Entry) (a : Answer)
-      → Chain b (List Entry) (domains b) TrailHolds L (answerBytes a) os (trailFrom b L os) (answerBytes (lastFrom b L a os))
-  unfolding trailFrom lastFrom
-  trail-chain [] L a = (refl, refl)
-  trail-chain (o ∷ os) L a =
-      (push b L o, answerBytes (answer b L o), trail-steps L o, trail-chain os (push b L o) (answer b L o))
-
-  pub trail-runs : (os : List (List ℕ)) → Run b (List Entry) (domains b) TrailHolds os (trail b os) (answerBytes (lastAnswer b os))
-  trail-runs os =
-      record {
-        start = [];
-        answer-0 = answerBytes (opening b);
-        opened = record { holds = refl; says = refl };
-        chain = trail-chain os [] (opening b);
-      }

@@ -175,7 +175,7 @@ openingArrays = record {
   doms = 7 ∷ 3 ∷ 3 ∷ [];
   words = 15 ∷ 0 ∷ 0 ∷ 0 ∷ 0 ∷ 0 ∷ 0 ∷ 0 ∷ 7 ∷ 0 ∷ 0 ∷ 0 ∷ 0 ∷ 0 ∷ 0 ∷ 0 ∷ [];
   index = 0 ∷ 1 ∷ 2 ∷ 3 ∷ 4 ∷ 5 ∷ 6 ∷ 7 ∷ 0 ∷ 1 ∷ 2 ∷ 3 ∷ 4 ∷ 5 ∷ 6 ∷ 7 ∷ [];
-  limits = 1 ∷ 1 ∷ [];
+  nonzero = 1 ∷ 1 ∷ [];
 }
 
 pub record RowFacts : Type 0 where

@@ -52,7 +52,7 @@ pub record WellFormed (b : Book) : Type 0 where
 -- ---- what settled means
 -- a support: a row of the sheet that is valid in B and has the value v at place i. "A row lies in a box when each of its values is in
 -- its column's domain" (valid): `pick B (s .columns)` are the domains of the sheet's columns, and `Takes` (Choices) says that the row has one
--- value of each
+-- value of each. That there is one is formula (3.2) of document 000: (currTable ∩ supports[x, a]) ≠ ∅
 pub record Support (B : List ℕ) (s : Sheet) (i v : ℕ) : Type 0 where
   pub row : List ℕ
   pub sheet-allows : allows s row ≡ true

@@ -1,24 +1,23 @@
--- The demands, so far as they speak of the definitions: what each says, and at the end the three claims, which `claim1`, `claim2` and `claim3`
--- of proofs/Demands.antt prove. Quoted are the customer's demands and document 01.
+-- The demands, so far as they speak of the definitions: what demands 1 and 2 say, how demand 3 compares two lists, and at the end the claims,
+-- which `claim1` and `claim2` of proofs/Demands.antt prove. Demand 3 itself speaks of answers and sessions: `ComparedRuns` and `Demand3` (crate runs).
+-- Quoted are the customer's demands and document 01.
 use mathlib.Core.Path.{_≡_}
 use mathlib.Core.Bool.{true, false}
-use mathlib.Core.Logic.{_⊎_, _↔_}
+use mathlib.Core.Logic.{_↔_}
 use mathlib.Core.Option.{none, some}
 use mathlib.Core.List.{List, [], _∷_, map}
 use Prim.Native.Nat.{ℕ, _+_, _^_, _≤_, _<_}
 use lib.Dec.{eqb}
-use lib.ListN.{getD}
 use Rattle.model.specs.Tests.{oneIf, tab}
 use Rattle.model.specs.Stores.{has, Within, emptyStore}
-use Rattle.model.specs.Choices.{Lower}
 use Rattle.model.specs.Books.{Book, columnCount, WellFormed, Stays, Fails}
 use Rattle.model.specs.Solutions.{Solution, FirstSolution, NoSolution, firstSolution}
 use Rattle.model.specs.Search.{searchSolution}
-use Rattle.model.specs.Orders.{byte, kind, argument, mask, nonzero, Entry, depth, refusal, push, trail, allowed, domains}
-use Rattle.model.specs.Answers.{statusOf, Answer, showing, answer, opening, answersFrom, lastAnswer, acceptedCount, answerBytes}
+use Rattle.model.specs.Orders.{byte, kind, argument, mask, nonzero, Entry, depth, refusal, push, allowed, domains}
+use Rattle.model.specs.Answers.{statusOf, Answer, showing, answer, opening, answersFrom, acceptedCount, answerBytes}
 
 -- ---- demand 1: orders over the book b
--- a refused order changes nothing, and "A refused order shows the unchanged state"
+-- "a refused order changes no domain or mark", for the whole trail stays; and "A refused order shows the unchanged state"
 pub record ChangesNothing (b : Book) (L : List Entry) (o : List ℕ) : Type 0 where
   pub same-trail : push b L o ≡ L
   pub shows : answer b L o ≡ showing b L (refusal b L o)
@@ -29,7 +28,7 @@ unrefused [] = 0
 unrefused (a ∷ rest) = oneIf (eqb (a .refused) 0) + unrefused rest
 
 pub record Demand1 (b : Book) : Type 0 where
-  -- "a refused order changes nothing"
+  -- "a refused order changes no domain or mark"
   pub refused : (L : List Entry) (o : List ℕ) → (refusal b L o ≡ 0 → ⊥) → ChangesNothing b L o
   -- "Being dead is never a cause of refusal: a dead session gives the same refusals as an open one": of what stands, the depth counts alone
   pub by-depth : (L M : List Entry) (o : List ℕ) → depth L ≡ depth M → refusal b L o ≡ refusal b M o
@@ -48,7 +47,7 @@ pub record Demand2 (b : Book) (L : List Entry) : Type 0 where
   -- "dead exactly when there is no sound box": status 0, and "every domain is empty"
   pub failed : (statusOf b (domains b L) ≡ 0) ↔ Fails b (allowed b L)
   pub empty : (domains b L ≡ emptyStore (columnCount b)) ↔ Fails b (allowed b L)
-  -- "finish gives the first full set"
+  -- "a finish gives the first full set in the current domains"
   pub found : (x : List ℕ) → (firstSolution b (domains b L) ≡ some x) ↔ FirstSolution b (domains b L) x
   -- "none exactly when there is none"
   pub not-found : (firstSolution b (domains b L) ≡ none) ↔ NoSolution b (domains b L)
@@ -95,72 +94,9 @@ pub record SameFinish (a d : List ℕ) : Type 0 where
   pub byte-4 : byte a 4 ≡ byte d 4
   pub bytes-8-to-71 : (i : ℕ) → 8 ≤ i → i ≤ 71 → byte a i ≡ byte d i
 
--- The engine over the book b, as its contracts describe it. `Session`: the type of a session. `current s`: its current domains.
--- `Holds L s`: what the session s is when the trail L stands. An answer is its 72 bytes.
-module _ (b : Book) (Session : Type 0) (current : Session → List ℕ) (Holds : List Entry → Session → Type 0) where
-  -- "the session given back holds exactly those as its current ones": all that demand 3 asks of `Holds`
-  pub record HoldsDomains : Type 0 where
-    pub at : (L : List Entry) (s : Session) → Holds L s → (c : ℕ) → getD (current s) c 0 ≡ getD (domains b L) c 0
-
-  -- the contract of the opening: "starts from the session that answer 0 shows, with an empty standing list"
-  pub record Opened (s : Session) (a : List ℕ) : Type 0 where
-    pub holds : Holds [] s
-    pub says : a ≡ answerBytes (opening b)
-
-  -- the contract of an order: it takes s, gives back t and writes the answer a. Whatever trail stood, the trail that o makes of it stands
-  pub record Stepped (s : Session) (o : List ℕ) (t : Session) (a : List ℕ) : Type 0 where
-    pub holds : (L : List Entry) → Holds L s → Holds (push b L o) t
-    pub says : (L : List Entry) → Holds L s → a ≡ answerBytes (answer b L o)
-
-  -- "Each order gets the session that the one before it gave back, after a refused one too, and nothing else writes the session or the
-  -- book meanwhile": from the session s and the answer a, the orders lead to t and d
-  abbrev pub Chain : Session → List ℕ → List (List ℕ) → Session → List ℕ → Type 0
-  Chain s a [] t d = (s ≡ t) × (a ≡ d)
-  Chain s a (o ∷ os) t d = (m : Session) × (e : List ℕ) × Stepped s o m e × Chain m e os t d
-
-  -- a whole list, of orders of any kind, from an opening to its last session and last answer
-  pub record Run (os : List (List ℕ)) (t : Session) (d : List ℕ) : Type 0 where
-    pub start : Session
-    pub answer-0 : List ℕ
-    pub opened : Opened start answer-0
-    pub chain : Chain start answer-0 os t d
-
-  -- the same by what it comes to: what a function ensures that runs a whole list
-  pub record Gives (os : List (List ℕ)) (t : Session) (d : List ℕ) : Type 0 where
-    pub holds : Holds (trail b os) t
-    pub says : d ≡ answerBytes (lastAnswer b os)
-
-  -- "Demand 3 is a single claim about any two whole lists": xs ended with the session s and the last answer a, ys with t and d
-  pub record Demand3 (xs ys : List (List ℕ)) (s t : Session) (a d : List ℕ) : Type 0 where
-    -- "Lists that end with the same allowed values in every column agree in bytes 1 and 4 of their last answers (answer 0 for an empty
-    -- list)
-    pub same-status : SameAllowed b (trail b xs) (trail b ys) → byte a 1 ≡ byte d 1
-    pub same-done : SameAllowed b (trail b xs) (trail b ys) → byte a 4 ≡ byte d 4
-    -- and in the current domain of every column in the session given back."
-    pub same-domains : SameAllowed b (trail b xs) (trail b ys) → (c : ℕ) → getD (current s) c 0 ≡ getD (current t) c 0
-    -- "If one accepted finish with the same bytes is then given to both, they agree in bytes 1, 3, 4 and 8 to 71 of its answer."
-    pub same-finish : SameAllowed b (trail b xs) (trail b ys) → (o : List ℕ) → kind o ≡ 4
-        → (s′ t′ : Session) (a′ d′ : List ℕ) → Stepped s o s′ a′ → Stepped t o t′ d′
-        → byte a′ 0 ≡ 0 → SameFinish a′ d′
-    -- "Then each value in a current domain of the narrower is in the wider's domain of that column."
-    pub narrower-within : Narrower b (trail b xs) (trail b ys) → Within (current s) (current t)
-    -- "If there is a full set in the narrower's current domains, there is one in the wider's,
-    pub wider-solution : Narrower b (trail b xs) (trail b ys) → (x : List ℕ) → Solution b (current s) x
-        → (y : List ℕ) × Solution b (current t) y
-    -- and the wider's first is the same as the narrower's or has the lower value in the lowest column where they differ."
-    pub wider-first : Narrower b (trail b xs) (trail b ys) → (x : List ℕ) → Solution b (current s) x
-        → (y : List ℕ) × (z : List ℕ) × FirstSolution b (current s) y × FirstSolution b (current t) z × ((z ≡ y) ⊎ Lower z y)
-
 -- ---- the claims
 abbrev pub Claim1 : Type 0
 Claim1 = (b : Book) → Demand1 b
 
 abbrev pub Claim2 : Type 0
 Claim2 = (b : Book) → WellFormed b → ((L : List Entry) → Demand2 b L) × EveryAnswer b
-
--- of any engine whose sessions hold the domains of their trail
-abbrev pub Claim3 : Type 1
-Claim3 =
-    (b : Book) (Session : Type 0) (current : Session → List ℕ) (Holds : List Entry → Session → Type 0) → HoldsDomains b Session current Holds
-    → (xs ys : List (List ℕ)) (s t : Session) (a d : List ℕ)
-    → Run b Session current Holds xs s a → Run b Session current Holds ys t d → Demand3 b Session current Holds xs ys s t a d

@@ -1,4 +1,5 @@
--- Valid rows (document 01: live rows) as words, the index of the words, and what a state holds when a trail stands.
+-- Valid rows (document 01: live rows), what they say of a book with one sheet, the rows as words, the index of the words, and what a state
+-- holds when a trail stands.
 use mathlib.Core.Path.{_≡_}
 use mathlib.Core.Bool.{Bool, true, false, _&&_}
 use mathlib.Core.Logic.{_↔_}
@@ -7,8 +8,8 @@ use Prim.Native.Nat.{ℕ, _+_, _*_, _≤_, _<_}
 use lib.Dec.{ltb}
 use lib.ListN.{length, getD}
 use Rattle.model.specs.Masks.{maskOf}
-use Rattle.model.specs.Stores.{has}
-use Rattle.model.specs.Books.{Sheet, Book}
+use Rattle.model.specs.Stores.{has, IsStore}
+use Rattle.model.specs.Books.{Sheet, Book, columnCount, WellFormed, closure}
 use Rattle.model.specs.Orders.{Entry, domains}
 
 -- "A row lies in a box when each of its values is in its column's domain": one value for each of these columns
@@ -18,9 +19,29 @@ valid D [] (v ∷ r) = false
 valid D (c ∷ cs) [] = false
 valid D (c ∷ cs) (v ∷ r) = has D c v && valid D cs r
 
--- row r of the sheet is valid in D
+-- row r of the sheet is valid in D. Formula (3.1) of document 000: i ∈ currTable ⇔ ∀ x ∈ scp(c) : τ_i[x] ∈ dom(x)
 unfoldable pub validRow : List ℕ → Sheet → ℕ → Bool
 validRow D s r = ltb r (length (s .rows)) && valid D (s .columns) (getD (s .rows) r [])
+
+-- "For one sheet this is formulas (3.1) and (3.2) of source document 000": the closure of A where s is the only sheet, from the rows that
+-- are valid in A itself, once and with no fixed point
+pub record OneSheet (b : Book) (s : Sheet) (A : List ℕ) : Type 0 where
+  -- (3.1): a row is valid exactly when A has its value in each column of the sheet
+  pub row : (r : ℕ) → r < length (s .rows)
+      → (validRow A s r ≡ true) ↔ ((i : ℕ) → i < length (s .columns) → has A (getD (s .columns) i 0) (getD (getD (s .rows) r []) i 0) ≡ true)
+  -- (3.2): a value of the sheet's column at place i is left exactly when a valid row has it there
+  pub own : (i : ℕ) → i < length (s .columns) → (v : ℕ)
+      → (has (closure b A) (getD (s .columns) i 0) v ≡ true) ↔ ((r : ℕ) × (validRow A s r ≡ true) × (getD (getD (s .rows) r []) i 0 ≡ v))
+  -- any other column keeps its values, where there is a valid row at all
+  pub other : (c : ℕ) → ((i : ℕ) → i < length (s .columns) → getD (s .columns) i 0 ≡ c → ⊥) → (v : ℕ)
+      → (has (closure b A) c v ≡ true) ↔ ((has A c v ≡ true) × ((r : ℕ) × (validRow A s r ≡ true)))
+
+-- so it is for every well-formed book with one sheet and every store with no empty column (with one, no consistent store lies within).
+-- Proved as `oneSheets` (proofs/OneSheet.antt)
+abbrev pub OneSheets : Type 0
+OneSheets =
+    (b : Book) (s : Sheet) (A : List ℕ) → WellFormed b → b .sheets ≡ s ∷ [] → IsStore (columnCount b) A
+    → ((c : ℕ) → c < columnCount b → (v : ℕ) × (has A c v ≡ true)) → OneSheet b s A
 
 -- word w of the sheet's valid rows: "Row r is bit r mod 64 of word r div 64"
 unfoldable pub validWord : List ℕ → Sheet → ℕ → ℕ
@@ -28,7 +49,7 @@ validWord D s w = maskOf 64 (λ k. validRow D s (64 * w + k))
 
 -- "An index lists word numbers as a permutation, and position i is at or below the limit exactly when the word it names isn't zero."
 -- Each of the eight word numbers stands at one position.
--- n is one more than the limit: "With no live row the limit is −1", and n is 0
+-- n is the number of words that are not zero, one more than the limit: "With no live row the limit is −1", and n is 0
 --
 --     position   0   1   2 | 3   4   5   6   7        n = 3
 --     index      5   0   2 | 7   1   6   3   4        words 5, 0 and 2 have a valid row, the others are zero
@@ -52,18 +73,19 @@ ofSheet xs s i = getD xs (8 * s + i) 0
 abbrev pub sheetAt : Book → ℕ → Sheet
 sheetAt b s = getD (b .sheets) s (record { columns = []; rows = [] })
 
--- a state: "arrays of live-row words, index positions, limits and domains"; a limit is held as one more than it is
+-- a state: "arrays of live-row words, index positions, limits and domains"; a limit is held as the number of words that are not zero, which is
+-- one more
 pub record Arrays : Type 0 where
   pub doms : List ℕ
   pub words : List ℕ
   pub index : List ℕ
-  pub limits : List ℕ
+  pub nonzero : List ℕ
 
 -- the state of a store D: its domains, its valid rows, and an index of their words
 pub record StateOf (b : Book) (D : List ℕ) (a : Arrays) : Type 0 where
   pub domain : (c : ℕ) → getD (a .doms) c 0 ≡ getD D c 0
   pub rows : (s w : ℕ) → s < length (b .sheets) → w < 8 → ofSheet (a .words) s w ≡ validWord D (sheetAt b s) w
-  pub indexed : (s : ℕ) → s < length (b .sheets) → Indexed (ofSheet (a .index) s) (getD (a .limits) s 0) (ofSheet (a .words) s)
+  pub indexed : (s : ℕ) → s < length (b .sheets) → Indexed (ofSheet (a .index) s) (getD (a .nonzero) s 0) (ofSheet (a .words) s)
 
 -- "its domains … and live rows are those of the standing list and its index keeps the invariant above"
 abbrev pub StateHolds : Book → List Entry → Arrays → Type 0

@@ -1,7 +1,8 @@
 // model: the mathematics of the fitting service, and no code.
 //
-// Promise: the customer's three demands as statements about the definitions, `Claim1`, `Claim2` and `Claim3` (specs/Demands.antt), proved as
-// `claim1`, `claim2`, `claim3` (proofs/Demands.antt); and the paper's ten examples and its run of seven lines (specs/Acceptance.antt).
+// Promise: the customer's demands 1 and 2 as statements about the definitions, `Claim1` and `Claim2` (specs/Demands.antt), proved as `claim1` and
+// `claim2` (proofs/Demands.antt), and the laws of demand 3, which speaks of runs; the paper's ten examples and its run of seven lines
+// (specs/Acceptance.antt); and that for one sheet the closure is the two formulas of document 000 (`OneSheets`, specs/States.antt).
 //
 //   specs/     what a reader must believe: stores, books, closure, solutions, orders, answers, and the statements of the demands, each with
 //              the sentence of document 01 that it states. Lib.antt has the reading order

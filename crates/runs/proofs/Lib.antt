@@ -1,6 +1,6 @@
--- The laws behind a run: spaces, a list on its way, one order with its answer, answers read back from bytes, and the promises.
+-- The laws behind a run: spaces, a list on its way, answers read back from bytes, the promises, and two lists compared.
 pub mod Spaces
 pub mod Runs
-pub mod Steps
 pub mod Reading
 pub mod Promises
+pub mod Comparisons

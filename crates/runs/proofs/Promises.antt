@@ -1,17 +1,17 @@
--- The claims of specs/Promises.antt, proved. Assumes nothing.
+-- The claims of specs/Promises.antt about one run, proved. Assumes nothing.
 -- ---- a right list has at most 256 orders, so a count is no refusal
 use mathlib.Core.Path.{_∙_, _≡_, ap, refl, subst, sym}
 use mathlib.Core.Bool.{Bool, false, true}
 use mathlib.Core.Logic.{_↔_, _⊎_, inl, inr}
 use mathlib.Core.Option.{none, some}
 use mathlib.Core.List.{List, []}
-use Prim.Native.Nat.{_*_, _+_, _-_, _/_, _<_, _^_, _≤_, suc, zero, ℕ}
+use Prim.Native.Nat.{_%_, _*_, _+_, _-_, _/_, _<_, _^_, _≤_, suc, zero, ℕ}
 use native.Mathlib.Numerals.{add-one}
 use native.Mathlib.Omega.{arith}
 use lib.Dec.{eqb, leb, ltb}
 use lib.ListN.{drop, getD, length}
 use lib.Seq.{getD-append-add, getD-drop, getD-take}
-use borrow.Author.Tests.{eqb-false, eqb-true, le-leb, le-ltb, leb-false, leb-true, lt-leb, lt-ltb, ltb-false, ne-eqb}
+use borrow.Author.Tests.{eqb-false, eqb-true, le-leb, le-ltb, leb-false, leb-true, lt-leb, lt-ltb, ltb-false, ne-eqb, not-false}
 use Rattle.model.specs.Answers.{Answer, acceptedCount, acceptedFrom, allBytes, answer, answerBytes, answers, doneOf, opening, showing, statusOf}
 use Rattle.model.specs.Books.{Book, Fails, Stays, WellFormed, columnCount}
 use Rattle.model.specs.Demands.{ShowsFinish, ShowsState}
@@ -21,11 +21,11 @@ use Rattle.model.specs.Solutions.{firstSolution}
 use Rattle.model.specs.Stores.{has}
 use Rattle.model.specs.Tests.{count, oneIf, sum, tab}
 use Rattle.model.proofs.Choices.{opt}
-use Rattle.model.proofs.Demands.{answer-tells, bytes-1, bytes-2, bytes-3, bytes-4, claim1, claim2}
+use Rattle.model.proofs.Demands.{answer-tells, bytes-0, bytes-1, bytes-2, bytes-3, bytes-4, bytes-zero, claim1, claim2}
 use Rattle.model.proofs.Refusals.{push-finish, push-refused}
 use Rattle.model.proofs.Search.{getD-map}
 use Rattle.model.proofs.Solutions.{found-iff, none-iff}
-use Rattle.model.proofs.Tests.{below, either, getD-tab, getD-tab-out, length-tab, or-false-l, sum-last, sum-same}
+use Rattle.model.proofs.Tests.{below, either, getD-tab, getD-tab-out, length-tab, or-false-l, or-false-r, sum-last, sum-same}
 use Rattle.model.proofs.Trails.{accepted-snoc, domains-store, trail-snoc}
 use Rattle.book.specs.Decoding.{bookOf}
 use Rattle.book.specs.Verdicts.{checkResult}
@@ -38,6 +38,10 @@ use Rattle.runs.specs.Spaces.{written}
 use Rattle.runs.proofs.Reading.{answer-depth, domain-back, map-out, shown-small}
 use Rattle.runs.proofs.Runs.{accepted-few, answers-at, length-answers}
 use Rattle.runs.proofs.Spaces.{answer-part, length-all, length-written}
+
+pub whole-list : (o : List ℕ) → wrongList o ≡ false → length o % 8 ≡ 0
+unfolding wrongList
+whole-list o e = eqb-true (length o % 8) 0 (not-false _ (or-false-r (ltb 2048 (length o)) _ e))
 
 pub right-list : (o : List ℕ) → wrongList o ≡ false → length o ≤ 2048
 unfolding wrongList
@@ -177,7 +181,7 @@ module _ (b o space : List ℕ) where
     abbrev S : List ℕ
     S = runSpace b o space
 
-    formed : WellFormed bk
+    pub formed : WellFormed bk
     formed = right-formed b (accepted-right b (right-input b o (length space) e .book))
 
     -- the trail after one order more
@@ -199,6 +203,10 @@ module _ (b o space : List ℕ) where
     -- answer 0
     opened : (j : ℕ) → j < 72 → byteOf S 0 j ≡ byte (answerBytes (opening bk)) j
     opened = at 0 (opening bk) (omega arith) refl
+
+    unrefused : byteOf S 0 0 ≡ 0
+    unfolding showing
+    unrefused = opened 0 (omega arith) ∙ bytes-0 (opening bk)
 
     no-orders : standing b o 0 ≡ []
     unfolding tab trailFrom
@@ -322,10 +330,14 @@ module _ (b o space : List ℕ) where
     accepted-run = record {
       counted = counted;
       refusals = refusals;
+      opened = unrefused;
       refused-order = λ i l z. stands-more i ∙ push-refused bk (standing b o i) (orderAt o i) (λ y. z (refusals i l ∙ y));
       status = λ i l. tells i l .0;
       deep = deep;
       done = λ i l. tells i l .1;
+      zero-bytes = λ i j l p q.
+          each (λ i. byteOf S i j ≡ 0) (opened j (omega arith) ∙ bytes-zero (opening bk) j p q)
+          (λ i m. ordered i m j (omega arith) ∙ bytes-zero (answer bk (standing b o i) (orderAt o i)) j p q) i l;
       outcome = outcome;
       stays = stays;
       failed = failed;

@@ -1,4 +1,4 @@
--- Laws of a list on its way, and of two whole lists. Assumes nothing.
+-- Laws of a list on its way. Assumes nothing.
 -- ---- how many, and the last
 use mathlib.Core.Path.{_∙_, _≡_, ap, refl, subst, sym}
 use mathlib.Core.Bool.{Bool, _&&_, _||_, cond, false, false≢true, true}
@@ -10,14 +10,13 @@ use native.Mathlib.Omega.{arith}
 use lib.Dec.{eqb, leb, ltb}
 use lib.ListN.{List·getD-append, getD, length}
 use lib.Seq.{getD-at}
-use borrow.Author.Tests.{eq-eqb, eqb-false, eqb-true, ne-eqb}
-use Rattle.model.specs.Answers.{Answer, acceptedCount, acceptedFrom, allBytes, answer, answerAt, answerBytes, answers, answersFrom, finishing, lastFrom, opening, outcomeOf, showing, solutionMasks}
+use borrow.Author.Tests.{eq-eqb, eqb-false, eqb-true, le-leb, lt-leb, ne-eqb}
+use Rattle.model.specs.Answers.{Answer, acceptedCount, acceptedFrom, allBytes, answer, answerAt, answerBytes, answers, answersFrom, finishing, lastAnswer, lastFrom, opening, outcomeOf, showing, solutionMasks}
 use Rattle.model.specs.Books.{Book, columnCount}
-use Rattle.model.specs.Demands.{Gives, HoldsDomains}
 use Rattle.model.specs.Orders.{Entry, argument, depth, domains, isAccepted, kind, mask, nonzero, outside, push, refusal, trail, trailFrom}
 use Rattle.model.specs.Solutions.{firstSolution}
 use Rattle.model.specs.Tests.{oneIf, tab}
-use Rattle.model.proofs.Demands.{answer-finish, answer-other, claim3, gives-demand3}
+use Rattle.model.proofs.Demands.{answer-finish, answer-other}
 use Rattle.model.proofs.Refusals.{push-finish, refusal-back, refusal-finish, refusal-mark, refusal-narrow, refusal-other}
 use Rattle.model.proofs.Tests.{and-i, and-l, and-r, below, either, getD-tab, length-tab}
 use Rattle.model.proofs.Trails.{accepted-snoc, answers-snoc, trail-snoc}
@@ -33,7 +32,7 @@ use Rattle.search.specs.Searches.{Finishes, isFound}
 use Rattle.search.specs.declared.Found.{Found}
 use Rattle.answers.specs.Parts.{finishAnswer, over, stateAnswer}
 use Rattle.answers.proofs.States.{finish-answer, state-answer}
-use Rattle.runs.specs.Runs.{AnswersAt, Compares, EnginesCompare, FinishesAt, RanTo, ShowsAt, current}
+use Rattle.runs.specs.Runs.{AnswersAt, FinishesAt, Led, RanTo, ShowsAt}
 use Rattle.runs.specs.Spaces.{Adds, written}
 use Rattle.runs.proofs.Spaces.{adds, answer-part, length-written, written-over}
 
@@ -112,10 +111,6 @@ refuses-small {b} x {L} {s} {r} h f = rw (f L (h .deep)) (refusal-small (bookOf 
 pub depth-small : {b : List ℕ} {L : List Entry} {s : Session} → Holds b L s → s .depth ≤ 16
 depth-small h = omega (arith, h .few, h .deep)
 
--- the mark of an accepted back, as the code has it
-pub back-wide : {m a d : ℕ} → m ≡ a → (1 ≤ a) × (a ≤ d) × (d ≤ 16) → (1 ≤ m) × (m ≤ d) × (d ≤ 16)
-back-wide e q = (omega (arith, q .0), omega (arith, q .1), q .2)
-
 -- an accepted order counts, a refused one doesn't
 pub counts-one : (k : ℕ) {r : ℕ} → r ≡ 0 → k + 1 ≡ k + oneIf (eqb r 0)
 counts-one k {r} z = ap (λ (t : Bool). k + oneIf t) (sym (eq-eqb r 0 z))
@@ -156,7 +151,7 @@ order-adds {b} {s} {t} x {r} i space {space′} f g w L h = go (either (eqb (kin
     refuses = f L (h .deep)
 
     after : Holds b (push (bookOf b) L x) t
-    after = g L h
+    after = g .holds L h
 
     go : ((eqb (kind x) 4 && isAccepted (bookOf b) L x) ≡ true) ⊎ ((eqb (kind x) 4 && isAccepted (bookOf b) L x) ≡ false) → Adds i (answer (bookOf b) L x) space space′
     go (inl e) =
@@ -181,9 +176,34 @@ module _ (b o old : List ℕ) where
   abbrev T : ℕ → List Entry
   T n = trail bk (ordersTo o n)
 
+  -- the sessions: none but the opening's, and one more
+  led-none : {s : Session} → Holds b [] s → Led b o 0 s
+  led-none {s} h = record { session = λ i. s; opened = h; steps = λ i l. absurd (omega arith); last = refl }
+
+  led-more : (n : ℕ) {s : Session} (t : Session) → Led b o n s → Stepped b s (orderAt o n) t → Led b o (n + 1) t
+  led-more n {s} t p g = record {
+    session = session;
+    opened = rw (early 0 (omega arith)) (p .opened);
+    steps = λ i l. step i (below i n) l;
+    last = late;
+  }
+    where
+      session : ℕ → Session
+      session i = cond (leb i n) (p .session i) t
+
+      early : (i : ℕ) → i ≤ n → session i ≡ p .session i
+      early i l = rw (le-leb i n l)
+
+      late : session (n + 1) ≡ t
+      late = let e : leb (n + 1) n ≡ false = lt-leb (n + 1) n (omega arith) in rw e
+
+      step : (i : ℕ) → (i < n) ⊎ (n ≤ i) → i < n + 1 → Stepped b (session i) (orderAt o i) (session (i + 1))
+      step i (inl k) l = rw (early i (omega arith), early (i + 1) (omega arith)) (p .steps i k)
+      step i (inr k) l = let e : i ≡ n = omega arith in rw (e, early n (omega arith), late, p .last) g
+
   pub ran-none : {s : Session} {space : List ℕ} → 72 ≤ length old → Holds b [] s → Adds 0 (opening bk) old space → RanTo b o old 0 s 0 space
   unfolding tab trailFrom acceptedFrom answersFrom allBytes
-  ran-none l h w = record { holds = h; counts = refl; wrote = w [] old refl l refl }
+  ran-none l h w = record { led = led-none h; holds = h; counts = refl; wrote = w [] old refl l refl }
 
   pub ran-few : {n k : ℕ} {s : Session} {space : List ℕ} → RanTo b o old n s k space → k ≤ n
   ran-few {n} {k} {s} {space} h = omega (arith, h .counts, accepted-few bk [] (ordersTo o n), length-tab n (orderAt o))
@@ -198,7 +218,8 @@ module _ (b o old : List ℕ) where
     pub more : {t : Session} {j : ℕ} {space′ : List ℕ} → Stepped b s x t → j ≡ k + oneIf (eqb r 0) → AnswersAt b x r (t .now) (t .depth) (n + 1) space space′
         → RanTo b o old (n + 1) t j space′
     more {t} {j} {space′} g c w = record {
-      holds = rw (orders-more o n, trail-snoc bk [] (ordersTo o n) (orderAt o n), ← e) (g _ (h .holds));
+      led = led-more n t (h .led) (rw e at g);
+      holds = rw (orders-more o n, trail-snoc bk [] (ordersTo o n) (orderAt o n), ← e) (g .holds _ (h .holds));
       counts =
           c
           ∙ ap (λ (i : ℕ). k + oneIf (eqb i 0)) (rw e at (f (T n) (h .holds .deep)))
@@ -216,7 +237,7 @@ module _ (b o old : List ℕ) where
   unfolding tab trailFrom acceptedFrom answersFrom
   opened-ran {s} {space} l h w =
       let e = ran-none l h w .wrote in
-      record { holds = h; counts = refl; wrote = e ∙ sym (written-over (opening bk ∷ []) (opening bk ∷ []) old e (omega arith)) }
+      record { led = led-none h; holds = h; counts = refl; wrote = e ∙ sym (written-over (opening bk ∷ []) (opening bk ∷ []) old e (omega arith)) }
 
   pub opened-long : {s : Session} {space : List ℕ} → 72 ≤ length old → Holds b [] s → Adds 0 (opening bk) old space → length space ≡ length old
   opened-long {s} {space} l h w = ran-room (ran-none l h w) (omega arith)
@@ -224,35 +245,16 @@ module _ (b o old : List ℕ) where
   pub ran-from : {s t : Session} {n k : ℕ} {mid space : List ℕ} → 72 ≤ length old → Holds b [] s → Adds 0 (opening bk) old mid → RanTo b o mid n t k space → RanTo b o old n t k space
   unfolding tab trailFrom acceptedFrom answersFrom
   ran-from {s} {t} {n} {k} {mid} {space} l h w g = record {
+    led = g .led;
     holds = g .holds;
     counts = g .counts;
     wrote = g .wrote ∙ written-over (answers bk (ordersTo o n)) (opening bk ∷ []) old (ran-none l h w .wrote) (omega (arith, length-answers bk o n));
   }
 
-  pub ran-gives : {s : Session} {k : ℕ} {space : List ℕ} → RanTo b o old (length o / 8) s k space
-      → Gives bk Session current (Holds b) (ordersOf o) s (answerAt space (length o / 8))
-  ran-gives {s} {k} {space} h = record {
-    holds = h .holds;
-    says =
-        rw (h .wrote)
-        (answer-part (answers bk (ordersOf o)) old (length o / 8) (opening bk) (omega (arith, length-answers bk o (length o / 8)))
-        ∙ ap answerBytes
-        (ap (λ (i : ℕ). getD (answers bk (ordersOf o)) i (opening bk)) (sym (length-tab (length o / 8) (orderAt o)))
-        ∙ last-at bk (ordersOf o) [] (opening bk) (opening bk)));
-  }
-
--- ---- demand 3
--- the engine's sessions hold the domains of their trail
-pub holds-domains : (b : List ℕ) → HoldsDomains (bookOf b) Session current (Holds b)
-holds-domains b = record { at = λ L s h c. h .current .holds .domain c }
-
--- the claim of specs/Runs.antt
-pub enginesCompare : EnginesCompare
-enginesCompare b = claim3 (bookOf b) Session current (Holds b) (holds-domains b)
-
--- of any two lists that were run
-pub ran-compares : {b x y old old′ : List ℕ} {s t : Session} {k j : ℕ} {space space′ : List ℕ} → RanTo b x old (length x / 8) s k space → RanTo b y old′ (length y / 8) t j space′
-    → Compares b x y s t space space′
-ran-compares {b} {x} {y} {old} {old′} {s} {t} {k} {j} {space} {space′} p q =
-    gives-demand3 (bookOf b) Session current (Holds b) (holds-domains b) (ordersOf x) (ordersOf y) s t (answerAt space (length x / 8)) (answerAt space′ (length y / 8))
-    (ran-gives b x old p) (ran-gives b y old′ q)
+-- the last answer that was written
+pub last-part : (b : Book) (o old : List ℕ) → answerAt (written (answers b (ordersOf o)) old) (length o / 8) ≡ answerBytes (lastAnswer b (ordersOf o))
+last-part b o old =
+    answer-part (answers b (ordersOf o)) old (length o / 8) (opening b) (omega (arith, length-answers b o (length o / 8)))
+    ∙ ap answerBytes
+    (ap (λ (i : ℕ). getD (answers b (ordersOf o)) i (opening b)) (sym (length-tab (length o / 8) (orderAt o)))
+    ∙ last-at b (ordersOf o) [] (opening b) (opening b))

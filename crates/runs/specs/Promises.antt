@@ -1,18 +1,22 @@
 -- What the two equations of a run come to, in the customer's words. b, o and space are the book, the orders and the answer space handed
--- over; n is the number of orders. Quoted are the customer's demands and document 01. Proved in proofs/Promises.antt.
+-- over; n is the number of orders. Quoted are the customer's demands and document 01. Proved in proofs/Promises.antt, what two runs have in common in
+-- proofs/Comparisons.antt.
 use mathlib.Core.Path.{_≡_}
 use mathlib.Core.Bool.{true}
-use mathlib.Core.Logic.{_↔_}
-use mathlib.Core.List.{List}
+use mathlib.Core.Logic.{_↔_, _⊎_}
+use mathlib.Core.List.{List, _++_}
 use Prim.Native.Nat.{_*_, _+_, _-_, _/_, _<_, _^_, _≤_, ℕ}
 use lib.Dec.{eqb}
 use lib.ListN.{getD, length}
-use Rattle.model.specs.Answers.{doneOf, statusOf}
+use Rattle.model.specs.Answers.{answerAt, doneOf, statusOf}
 use Rattle.model.specs.Books.{Fails, Stays, columnCount}
+use Rattle.model.specs.Choices.{Lower}
+use Rattle.model.specs.Demands.{Narrower, SameAllowed, SameFinish}
 use Rattle.model.specs.Masks.{bit}
 use Rattle.model.specs.Orders.{Entry, allowed, byte, depth, domains, kind, refusal, trail}
+use Rattle.model.specs.Search.{valueOf}
 use Rattle.model.specs.Solutions.{FirstSolution, NoSolution, Solution}
-use Rattle.model.specs.Tests.{count}
+use Rattle.model.specs.Tests.{count, tab}
 use Rattle.book.specs.Decoding.{bookOf}
 use Rattle.engine.specs.Lists.{orderAt, ordersTo}
 use Rattle.runs.specs.Results.{runRefusal, runResult, runSpace, spaceNeeded}
@@ -44,7 +48,7 @@ pub record IsFinish (o space : List ℕ) (i : ℕ) : Type 0 where
 pub record AnyRun (b o space : List ℕ) : Type 0 where
   -- "a refused run writes nothing"
   pub refused-run : 65536 ≤ runResult b o (length space) → runSpace b o space ≡ space
-  -- "writes nothing but answers": "Later bytes of the space are untouched"
+  -- "touches nothing outside the answers": "Later bytes of the space are untouched"
   pub untouched : (j : ℕ) → spaceNeeded o ≤ j → byte (runSpace b o space) j ≡ byte space j
   pub same-length : length (runSpace b o space) ≡ length space
   -- a number below 65,536 says that the run was accepted, and no other does
@@ -52,16 +56,19 @@ pub record AnyRun (b o space : List ℕ) : Type 0 where
 
 -- ---- an accepted run; S is the answer space at its end
 pub record AcceptedRun (b o S : List ℕ) (n accepted : ℕ) : Type 0 where
-  -- demand 1: "Accepted: the number of accepted orders", which is the number of answers after the opening with byte 0 equal to 0
+  -- demand 1: "the accepted count is the number of orders answered with 0", answer 0 being that of no order
   pub counted : accepted ≡ count n (λ i. eqb (byteOf S (i + 1) 0) 0)
   -- "byte 0 the refusal or 0": by the order's bytes, the book and what stands
   pub refusals : (i : ℕ) → i < n → byteOf S (i + 1) 0 ≡ refusal (bookOf b) (standing b o i) (orderAt o i)
-  -- "a refused order changes nothing": no domain and no mark, for the whole standing list stays
+  pub opened : byteOf S 0 0 ≡ 0
+  -- "a refused order changes no domain or mark", for the whole standing list stays
   pub refused-order : (i : ℕ) → i < n → (byteOf S (i + 1) 0 ≡ 0 → ⊥) → standing b o (i + 1) ≡ standing b o i
   -- "byte 1 status", "byte 2 depth", "byte 4 done"
   pub status : (i : ℕ) → i ≤ n → byteOf S i 1 ≡ statusOf (bookOf b) (domains (bookOf b) (standing b o i))
   pub deep : (i : ℕ) → i ≤ n → byteOf S i 2 ≡ depth (standing b o i)
   pub done : (i : ℕ) → i ≤ n → byteOf S i 4 ≡ doneOf (bookOf b) (domains (bookOf b) (standing b o i))
+  -- "bytes 5 to 7 zero"
+  pub zero-bytes : (i j : ℕ) → i ≤ n → 5 ≤ j → j ≤ 7 → byteOf S i j ≡ 0
   -- "byte 3 zero, or for an accepted finish 1 found, 2 none"
   pub outcome : (i : ℕ) → i ≤ n → (IsFinish o S i → ⊥) → byteOf S i 3 ≡ 0
   -- demand 2, at every answer: "a value stays exactly when some sound box within the standing narrowings holds it"
@@ -69,7 +76,7 @@ pub record AcceptedRun (b o S : List ℕ) (n accepted : ℕ) : Type 0 where
       → (bit v (domainOf S i c) ≡ true) ↔ Stays (bookOf b) (allowed (bookOf b) (standing b o i)) c v
   -- "dead exactly when there is no sound box"
   pub failed : (i : ℕ) → i ≤ n → (byteOf S i 1 ≡ 0) ↔ Fails (bookOf b) (allowed (bookOf b) (standing b o i))
-  -- "finish gives the first full set, none exactly when there is none"
+  -- "a finish gives the first full set in the current domains, none exactly when there is none"
   pub found : (i : ℕ) → i ≤ n → IsFinish o S i
       → (byteOf S i 3 ≡ 1) ↔ ((x : List ℕ) × Solution (bookOf b) (domains (bookOf b) (standing b o i)) x)
   pub not-found : (i : ℕ) → i ≤ n → IsFinish o S i → (byteOf S i 3 ≡ 2) ↔ NoSolution (bookOf b) (domains (bookOf b) (standing b o i))
@@ -80,6 +87,50 @@ pub record AcceptedRun (b o S : List ℕ) (n accepted : ℕ) : Type 0 where
   -- "or zeros for none"
   pub zeros : (i : ℕ) → i ≤ n → IsFinish o S i → NoSolution (bookOf b) (domains (bookOf b) (standing b o i)) → (c : ℕ) → c < 16 → domainOf S i c ≡ 0
 
+-- ---- demand 3, of the answers: "any two whole lists", of orders of any kind, over one book. x and y are the lists, a and d answers
+-- what stands after the whole list
+abbrev pub standingAfter : List ℕ → List ℕ → List Entry
+standingAfter b o = standing b o (length o / 8)
+
+-- "Lists that end with the same allowed values in every column"
+abbrev pub EqualEnds : List ℕ → List ℕ → List ℕ → Type 0
+EqualEnds b x y = SameAllowed (bookOf b) (standingAfter b x) (standingAfter b y)
+
+-- x "is narrower than another, the wider one, when in every column it allows only values that the other allows too; equal counts"
+abbrev pub NarrowerEnd : List ℕ → List ℕ → List ℕ → Type 0
+NarrowerEnd b x y = Narrower (bookOf b) (standingAfter b x) (standingAfter b y)
+
+-- a is the last answer of an accepted run of the list o, in whatever space: "answer 0 for an empty list"
+pub record EndsWith (b o a : List ℕ) : Type 0 where
+  pub space : List ℕ
+  pub accepted : runRefusal b o (length space) ≡ 0
+  pub last : a ≡ answerAt (runSpace b o space) (length o / 8)
+
+-- the finish f "is then given to both": a and d are its answers, the last ones of the lists with f appended. So each has up to 255 orders before it
+pub record NextFinish (b x y f a d : List ℕ) : Type 0 where
+  pub bytes : length f ≡ 8
+  pub of-kind : kind f ≡ 4
+  pub left : EndsWith b (x ++ f) a
+  pub right : EndsWith b (y ++ f) d
+
+-- the full set that an answer shows: a value for each column
+abbrev pub setIn : List ℕ → List ℕ → List ℕ
+setIn b a = tab (columnCount (bookOf b)) (λ c. valueOf (domainOf a 0 c))
+
+pub record ComparedRuns (b x y : List ℕ) : Type 0 where
+  -- "Lists that end with the same allowed values in every column agree in bytes 1 and 4 of their last answers (answer 0 for an empty list)"
+  pub same-status : EqualEnds b x y → (a d : List ℕ) → EndsWith b x a → EndsWith b y d → byte a 1 ≡ byte d 1
+  pub same-done : EqualEnds b x y → (a d : List ℕ) → EndsWith b x a → EndsWith b y d → byte a 4 ≡ byte d 4
+  -- a finish that is then given to both is accepted in both or in none
+  pub same-refusal : (f a d : List ℕ) → NextFinish b x y f a d → byte a 0 ≡ byte d 0
+  -- "If one accepted finish with the same bytes is then given to both, they agree in bytes 1, 3, 4 and 8 to 71 of its answer."
+  pub same-finish : EqualEnds b x y → (f a d : List ℕ) → NextFinish b x y f a d → byte a 0 ≡ 0 → SameFinish a d
+  -- "If there is a full set in the narrower's current domains, there is one in the wider's,
+  pub wider-found : NarrowerEnd b x y → (f a d : List ℕ) → NextFinish b x y f a d → byte a 0 ≡ 0 → byte a 3 ≡ 1 → byte d 3 ≡ 1
+  -- and the wider's first is the same as the narrower's or has the lower value in the lowest column where they differ."
+  pub wider-first : NarrowerEnd b x y → (f a d : List ℕ) → NextFinish b x y f a d → byte a 0 ≡ 0 → byte a 3 ≡ 1
+      → (setIn b d ≡ setIn b a) ⊎ Lower (setIn b d) (setIn b a)
+
 -- ---- the claims, of every book, list and space
 abbrev pub AnyRuns : Type 0
 AnyRuns = (b o space : List ℕ) → AnyRun b o space
@@ -88,3 +139,6 @@ abbrev pub AcceptedRuns : Type 0
 AcceptedRuns =
     (b o space : List ℕ) → runRefusal b o (length space) ≡ 0
     → AcceptedRun b o (runSpace b o space) (length o / 8) (runResult b o (length space))
+
+abbrev pub RunsCompare : Type 0
+RunsCompare = (b x y : List ℕ) → ComparedRuns b x y

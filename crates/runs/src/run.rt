@@ -4,7 +4,6 @@ use book::fields::wide;
 use engine::layout::*;
 use engine::orders::*;
 use engine::session::*;
-use engine::state::*;
 ghost use mathlib.Core.Path.{_≡_};
 ghost use Prim.Native.Nat.{_+_, _*_, _/_, _<_};
 ghost use lib.ListN.{length};
@@ -17,8 +16,8 @@ pub struct Ran {
     pub session: Session,
 }
 
-// Every order run in turn, from the opening, and answered. The orders are written out as the session's methods have them: a method takes
-// and gives the session by value, and where a saved state is reached by a number that varies, that copies all sixteen each time.
+// Every order run in turn, from the opening, and answered. A narrow, a mark and a back take the session and give it back; any other order, and a
+// refused one, leaves it alone.
 pub fn run_orders(book: &[u8], orders: &[u8], answers: &mut [u8]) -> Ran
     requires { ⌜ RightInput (now book) (now orders) (length (now answers)) ⌝ }
     ensures { λ r. ⌜ RanTo (now (book .entry)) (now (orders .entry)) (now (answers .entry)) (length (now (orders .entry)) / 8) (r .session) (r .accepted) (now (answers .exit)) ⌝ }
@@ -32,20 +31,16 @@ pub fn run_orders(book: &[u8], orders: &[u8], answers: &mut [u8]) -> Ran
     while i < orders.len() / 8 {
         let order = &orders[8 * i..8 * i + 8];
         let depth = s.depth;
-        let st = s.now;
         let r = refusal(book, depth, order);
         i += 1;
         if r == 0 {
             accepted += 1;
             if order[0] == 1 {
-                s.now = st.narrowed(book, &first, &mask, wide(order[1]), mask_of(order));
+                s = s.narrow(book, &first, &mask, wide(order[1]), mask_of(order));
             } else if order[0] == 2 {
-                s.saved[depth] = st;
-                s.depth = depth + 1;
+                s = s.mark();
             } else if order[0] == 3 {
-                let m = wide(order[1]) - 1;
-                s.now = s.saved[m];
-                s.depth = m;
+                s = s.back(wide(order[1]));
             }
         }
         show_order(answers, i, book, &first, &mask, order, r, s.depth, s.now);

@@ -43,7 +43,7 @@ module _ (b : List ℕ) (acc : Accepted b) (st : State) where
       }))
 
   -- it is not: no column is
-  pub finish-filled : SomeState b st → (getD (st .dom) 0 0 ≡ 0 → ⊥) → FilledState b (st .dom) (st .live) (st .index) (st .limit)
+  pub finish-filled : SomeState b st → (getD (st .dom) 0 0 ≡ 0 → ⊥) → FilledState b (st .dom) (st .live) (st .index) (st .nonzero)
   unfolding domains has
   finish-filled s n = record { stands = s .stands; is = s .is; filled = go (closed-or-empty (bookOf b) (book-formed b acc) (allowed (bookOf b) (s .stands)) (allowed-store (bookOf b) (s .stands))) }
     where

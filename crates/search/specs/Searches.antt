@@ -45,7 +45,7 @@ Finishes b st f = (L : List Entry) → StateIs b L st → FoundIs b (firstSoluti
 -- the arrays are the state of some trail, and it is not failed
 pub record FilledState (b D W X N : List ℕ) : Type 0 where
   pub stands : List Entry
-  pub is : StateIs b stands (record { dom = D; live = W; index = X; limit = N })
+  pub is : StateIs b stands (record { dom = D; live = W; index = X; nonzero = N })
   pub filled : (c : ℕ) → c < columnsOf b → (v : ℕ) × (has D c v ≡ true)
 
 -- v is a value of column c, and there are more

@@ -68,9 +68,9 @@ fn pick_column(
     dom: &[u32; 16],
     live: &[u64; 64],
     index: &[u8; 64],
-    limit: &[u8; 8],
+    nonzero: &[u8; 8],
 ) -> Found
-    requires { ⌜ Accepted (now book) × LayoutOf (now book) (now first) (now mask) × FilledState (now book) (now dom) (now live) (now index) (now limit) ⌝ }
+    requires { ⌜ Accepted (now book) × LayoutOf (now book) (now first) (now mask) × FilledState (now book) (now dom) (now live) (now index) (now nonzero) ⌝ }
     ensures { λ r. ⌜ FoundIs (now (book .entry)) (solutionIn (now (book .entry)) (now (dom .entry))) r ⌝ }
 {
     let c = open_column(dom);
@@ -87,7 +87,7 @@ fn pick_column(
             dom,
             live,
             index,
-            limit,
+            nonzero,
             c,
             lowest_value(rest),
         );
@@ -107,11 +107,11 @@ fn try_value(
     dom: &[u32; 16],
     live: &[u64; 64],
     index: &[u8; 64],
-    limit: &[u8; 8],
+    nonzero: &[u8; 8],
     c: usize,
     v: u32,
 ) -> Found
-    requires { ⌜ Accepted (now book) × LayoutOf (now book) (now first) (now mask) × FilledState (now book) (now dom) (now live) (now index) (now limit) × OpenValue (now book) (now dom) c v ⌝ }
+    requires { ⌜ Accepted (now book) × LayoutOf (now book) (now first) (now mask) × FilledState (now book) (now dom) (now live) (now index) (now nonzero) × OpenValue (now book) (now dom) c v ⌝ }
     ensures { λ r. ⌜ FoundIs (now (book .entry)) (solutionAfter (now (book .entry)) (now (dom .entry)) c v) r ⌝ }
 {
     let column = 1u32 << c;
@@ -119,7 +119,7 @@ fn try_value(
     let mut d = *dom;
     let mut l = *live;
     let mut x = *index;
-    let mut n = *limit;
+    let mut n = *nonzero;
     d[c] = words::bits::only(v);
     if engine::propagate::propagate(
         book,
@@ -149,6 +149,6 @@ pub fn finish(book: &[u8], first: &[usize; 8], mask: &[u32; 8], st: State) -> Fo
     }
     let live = st.live;
     let index = st.index;
-    let limit = st.limit;
-    pick_column(book, first, mask, &dom, &live, &index, &limit)
+    let nonzero = st.nonzero;
+    pick_column(book, first, mask, &dom, &live, &index, &nonzero)
 }

@@ -62,14 +62,14 @@ word-there {b} {first} {s} a W h w l f p =
 
 -- ---- what concerns one sheet alone
 pub only-same : {s : ℕ} {W X N : List ℕ} → OnlySheet s W X N W X N
-only-same = record { words = λ t i l n. refl; index = λ t i l n. refl; limits = λ t n. refl }
+only-same = record { words = λ t i l n. refl; index = λ t i l n. refl; nonzero = λ t n. refl }
 
 pub only-more : {s : ℕ} {W X N W′ X′ N′ W″ X″ N″ : List ℕ} → OnlySheet s W X N W′ X′ N′ → OnlySheet s W′ X′ N′ W″ X″ N″ → OnlySheet s W X N W″ X″ N″
 only-more p q =
     record {
       words = λ t i l n. q .words t i l n ∙ p .words t i l n;
       index = λ t i l n. q .index t i l n ∙ p .index t i l n;
-      limits = λ t n. q .limits t n ∙ p .limits t n;
+      nonzero = λ t n. q .nonzero t n ∙ p .nonzero t n;
     }
 
 -- ---- one word
@@ -121,8 +121,8 @@ module _ {b : List ℕ} {first s : ℕ} (a : AtSheet b first s) (p j d : ℕ) (W
       after = λ i r z. (i, r, z, refl);
       indexed = index-kept h p l (ofSheet (set W (8 * s + w) keep) s) rest-same (rw (← ew, here) q);
       limit = omega arith;
-      only = record { words = λ t i r n. there t i r (λ z e. n z); index = λ t i r n. refl; limits = λ t n. refl };
-      sized = record { words = length-set W (8 * s + w) keep ∙ size .words; bits = set-bits; index = size .index; limits = size .limits };
+      only = record { words = λ t i r n. there t i r (λ z e. n z); index = λ t i r n. refl; nonzero = λ t n. refl };
+      sized = record { words = length-set W (8 * s + w) keep ∙ size .words; bits = set-bits; index = size .index; nonzero = size .nonzero };
     }
 
     -- none is left
@@ -133,20 +133,20 @@ module _ {b : List ℕ} {first s : ℕ} (a : AtSheet b first s) (p j d : ℕ) (W
       before = λ i r. of-swapped X s p q small q-small there-x i ∙ ap (ofSheet X s) (other-rest p q i (λ e. omega arith) (λ e. omega arith));
       after = λ i r y. (other p q i, from i r, other-lt p q i 8 small q-small y, of-swapped X s p q small q-small there-x i);
       indexed =
-          rw (getD-set-same N s q 0 (omega (arith, eight a, size .limits)))
+          rw (getD-set-same N s q 0 (omega (arith, eight a, size .nonzero)))
           (index-dropped h p l (ofSheet (set W (8 * s + w) keep) s) rest-same (ap (ofSheet (set W (8 * s + w) keep) s) (sym ew) ∙ here ∙ z)
           (ofSheet (swapped X (8 * s + p) (8 * s + q)) s) (of-swapped X s p q small q-small there-x));
-      limit = rw (getD-set-same N s q 0 (omega (arith, eight a, size .limits))) (omega arith);
+      limit = rw (getD-set-same N s q 0 (omega (arith, eight a, size .nonzero))) (omega arith);
       only = record {
         words = λ t i r n. there t i r (λ y e. n y);
         index = λ t i r n. of-swapped-other X s p q small q-small there-x t i r n;
-        limits = λ t n. getD-set-other N s t q 0 n;
+        nonzero = λ t n. getD-set-other N s t q 0 n;
       };
       sized = record {
         words = length-set W (8 * s + w) keep ∙ size .words;
         bits = set-bits;
         index = length-swapped X (8 * s + p) (8 * s + q) ∙ size .index;
-        limits = length-set N s q ∙ size .limits;
+        nonzero = length-set N s q ∙ size .nonzero;
       };
     }
       where

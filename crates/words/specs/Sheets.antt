@@ -1,6 +1,6 @@
 -- One sheet: which of its rows are set in the words, what is known of it while the engine works, and what a pass makes of it.
 --
--- Names: W, X, N are the arrays of words, index positions and limits (one more than the limit), D the domains; a second set has a ′.
+-- Names: W, X, N are the arrays of words, index positions and counts of words that are not zero, D the domains; a second set has a ′.
 use mathlib.Core.Path.{_≡_}
 use mathlib.Core.Bool.{Bool, _&&_, _||_, false, not, true}
 use mathlib.Core.Logic.{_⊎_}
@@ -37,18 +37,18 @@ pub record AtSheet (b : List ℕ) (first s : ℕ) : Type 0 where
 unfoldable pub isSet : List ℕ → ℕ → ℕ → Bool
 isSet W s r = bit (r % 64) (ofSheet W s (r / 64))
 
--- the arrays have their sizes: 64 words of 64 bits, 64 index positions, 8 limits
+-- the arrays have their sizes: 64 words of 64 bits, 64 index positions, 8 counts
 pub record Sized (W X N : List ℕ) : Type 0 where
   pub words : length W ≡ 64
   pub bits : (i : ℕ) → getD W i 0 < 2 ^ 64
   pub index : length X ≡ 64
-  pub limits : length N ≡ 8
+  pub nonzero : length N ≡ 8
 
 -- nothing but rows of the sheet is set
 pub record Inside (b : List ℕ) (s : ℕ) (W : List ℕ) : Type 0 where
   pub at : (r : ℕ) → r < 512 → isSet W s r ≡ true → r < rowsOf b s
 
--- the index and the limit of sheet s keep document 01's invariant
+-- the index and the count of sheet s keep document 01's invariant
 abbrev pub IndexOf : ℕ → List ℕ → List ℕ → List ℕ → Type 0
 IndexOf s W X N = Indexed (ofSheet X s) (getD N s 0) (ofSheet W s)
 
@@ -56,7 +56,7 @@ IndexOf s W X N = Indexed (ofSheet X s) (getD N s 0) (ofSheet W s)
 pub record OnlySheet (s : ℕ) (W X N W′ X′ N′ : List ℕ) : Type 0 where
   pub words : (t i : ℕ) → i < 8 → (t ≡ s → ⊥) → ofSheet W′ t i ≡ ofSheet W t i
   pub index : (t i : ℕ) → i < 8 → (t ≡ s → ⊥) → ofSheet X′ t i ≡ ofSheet X t i
-  pub limits : (t : ℕ) → (t ≡ s → ⊥) → getD N′ t 0 ≡ getD N t 0
+  pub nonzero : (t : ℕ) → (t ≡ s → ⊥) → getD N′ t 0 ≡ getD N t 0
 
 -- ---- pass 1
 -- entries i and j of a list change places

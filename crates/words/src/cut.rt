@@ -18,10 +18,10 @@ fn cut_word(
     d: u32,
     live: &mut [u64; 64],
     index: &mut [u8; 64],
-    limit: &mut [u8; 8],
+    nonzero: &mut [u8; 8],
 ) -> bool
-    requires { ⌜ AtSheet (now book) first s × (j < 4) × Inside (now book) s (now live) × IndexOf s (now live) (now index) (now limit) × Sized (now live) (now index) (now limit) × (p < getD (now limit) s 0) ⌝ }
-    ensures { λ r. ⌜ WordCut (now (book .entry)) s p j d (now (live .entry)) (now (index .entry)) (now (limit .entry)) (now (live .exit)) (now (index .exit)) (now (limit .exit)) × (r ≡ false → now (live .exit) ≡ now (live .entry)) ⌝ }
+    requires { ⌜ AtSheet (now book) first s × (j < 4) × Inside (now book) s (now live) × IndexOf s (now live) (now index) (now nonzero) × Sized (now live) (now index) (now nonzero) × (p < getD (now nonzero) s 0) ⌝ }
+    ensures { λ r. ⌜ WordCut (now (book .entry)) s p j d (now (live .entry)) (now (index .entry)) (now (nonzero .entry)) (now (live .exit)) (now (index .exit)) (now (nonzero .exit)) × (r ≡ false → now (live .exit) ≡ now (live .entry)) ⌝ }
 {
     let w = word_number(index, s, p);
     let at = 8 * s + w;
@@ -32,7 +32,7 @@ fn cut_word(
     }
     live[at] = keep;
     if keep == 0 {
-        drop_word(index, limit, s, p);
+        drop_word(index, nonzero, s, p);
         return true;
     }
     true
@@ -47,16 +47,16 @@ fn cut(
     d: u32,
     live: &mut [u64; 64],
     index: &mut [u8; 64],
-    limit: &mut [u8; 8],
+    nonzero: &mut [u8; 8],
 ) -> bool
-    requires { ⌜ AtSheet (now book) first s × (j < 4) × Inside (now book) s (now live) × IndexOf s (now live) (now index) (now limit) × Sized (now live) (now index) (now limit) ⌝ }
-    ensures { λ r. ⌜ CutBy (valueIn (now (book .entry)) s j d) s (now (live .entry)) (now (index .entry)) (now (limit .entry)) (now (live .exit)) (now (index .exit)) (now (limit .exit)) × (r ≡ false → now (live .exit) ≡ now (live .entry)) ⌝ }
+    requires { ⌜ AtSheet (now book) first s × (j < 4) × Inside (now book) s (now live) × IndexOf s (now live) (now index) (now nonzero) × Sized (now live) (now index) (now nonzero) ⌝ }
+    ensures { λ r. ⌜ CutBy (valueIn (now (book .entry)) s j d) s (now (live .entry)) (now (index .entry)) (now (nonzero .entry)) (now (live .exit)) (now (index .exit)) (now (nonzero .exit)) × (r ≡ false → now (live .exit) ≡ now (live .entry)) ⌝ }
 {
     let mut any = false;
-    let mut p = nonzero_words(limit, s);
+    let mut p = nonzero_words(nonzero, s);
     while 0 < p {
         p -= 1;
-        any = any | cut_word(book, first, s, p, j, d, live, index, limit);
+        any = any | cut_word(book, first, s, p, j, d, live, index, nonzero);
     }
     any
 }
@@ -71,14 +71,14 @@ fn cut_place(
     dom: &[u32; 16],
     live: &mut [u64; 64],
     index: &mut [u8; 64],
-    limit: &mut [u8; 8],
+    nonzero: &mut [u8; 8],
 ) -> bool
-    requires { ⌜ AtSheet (now book) first s × (j < widthOf (now book) s) × Inside (now book) s (now live) × IndexOf s (now live) (now index) (now limit) × Sized (now live) (now index) (now limit) ⌝ }
-    ensures { λ r. ⌜ CutBy (passesAt (now (book .entry)) s changed (now (dom .entry)) j) s (now (live .entry)) (now (index .entry)) (now (limit .entry)) (now (live .exit)) (now (index .exit)) (now (limit .exit)) × (r ≡ false → now (live .exit) ≡ now (live .entry)) ⌝ }
+    requires { ⌜ AtSheet (now book) first s × (j < widthOf (now book) s) × Inside (now book) s (now live) × IndexOf s (now live) (now index) (now nonzero) × Sized (now live) (now index) (now nonzero) ⌝ }
+    ensures { λ r. ⌜ CutBy (passesAt (now (book .entry)) s changed (now (dom .entry)) j) s (now (live .entry)) (now (index .entry)) (now (nonzero .entry)) (now (live .exit)) (now (index .exit)) (now (nonzero .exit)) × (r ≡ false → now (live .exit) ≡ now (live .entry)) ⌝ }
 {
     let c = book::head::column(book, s, j);
     if (changed >> c) % 2 == 1 {
-        return cut(book, first, s, j, dom[c], live, index, limit);
+        return cut(book, first, s, j, dom[c], live, index, nonzero);
     }
     false
 }
@@ -93,16 +93,16 @@ pub fn cut_places(
     dom: &[u32; 16],
     live: &mut [u64; 64],
     index: &mut [u8; 64],
-    limit: &mut [u8; 8],
+    nonzero: &mut [u8; 8],
 ) -> bool
-    requires { ⌜ AtSheet (now book) first s × Inside (now book) s (now live) × IndexOf s (now live) (now index) (now limit) × Sized (now live) (now index) (now limit) ⌝ }
-    ensures { λ r. ⌜ CutBy (passesBelow (now (book .entry)) s changed (now (dom .entry)) (widthOf (now (book .entry)) s)) s (now (live .entry)) (now (index .entry)) (now (limit .entry)) (now (live .exit)) (now (index .exit)) (now (limit .exit)) × (r ≡ false → (opening ≡ false) × (now (live .exit) ≡ now (live .entry))) ⌝ }
+    requires { ⌜ AtSheet (now book) first s × Inside (now book) s (now live) × IndexOf s (now live) (now index) (now nonzero) × Sized (now live) (now index) (now nonzero) ⌝ }
+    ensures { λ r. ⌜ CutBy (passesBelow (now (book .entry)) s changed (now (dom .entry)) (widthOf (now (book .entry)) s)) s (now (live .entry)) (now (index .entry)) (now (nonzero .entry)) (now (live .exit)) (now (index .exit)) (now (nonzero .exit)) × (r ≡ false → (opening ≡ false) × (now (live .exit) ≡ now (live .entry))) ⌝ }
 {
     let k = book::head::width(book, s);
     let mut any = opening;
     let mut j: usize = 0;
     while j < k {
-        any = any | cut_place(book, first, s, j, changed, dom, live, index, limit);
+        any = any | cut_place(book, first, s, j, changed, dom, live, index, nonzero);
         j += 1;
     }
     any

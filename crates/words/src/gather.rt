@@ -25,12 +25,12 @@ pub fn carried(
     seen: &mut [u32; 4],
     live: &[u64; 64],
     index: &[u8; 64],
-    limit: &[u8; 8],
+    nonzero: &[u8; 8],
 )
-    requires { ⌜ AtSheet (now book) first s × Inside (now book) s (now live) × IndexOf s (now live) (now index) (now limit) × Sized (now live) (now index) (now limit) × (now seen ≡ replicate 4 0) × SmallSets (now x) ⌝ }
+    requires { ⌜ AtSheet (now book) first s × Inside (now book) s (now live) × IndexOf s (now live) (now index) (now nonzero) × Sized (now live) (now index) (now nonzero) × (now seen ≡ replicate 4 0) × SmallSets (now x) ⌝ }
     ensures { λ r. ⌜ Supported (now (book .entry)) s (now (live .entry)) (now (x .entry)) (now (seen .exit)) ⌝ }
 {
-    let n = nonzero_words(limit, s);
+    let n = nonzero_words(nonzero, s);
     let mut p: usize = 0;
     while p < n {
         let w = word_number(index, s, p);

@@ -1,6 +1,6 @@
 // The index of a sheet's words: which of the eight are not zero.
 //
-//     position   0   1   2 | 3   4   5   6   7        limit (held as one more) 3
+//     position   0   1   2 | 3   4   5   6   7        nonzero 3: positions 0 to 2 are at or below the limit
 //     index      5   0   2 | 7   1   6   3   4        words 5, 0 and 2 have a row that is set, the others are zero
 ghost use mathlib.Core.Path.{_≡_};
 ghost use Prim.Native.Nat.{_+_, _-_, _*_, _<_, _≤_};
@@ -9,11 +9,11 @@ ghost use Rattle.model.specs.States.{ofSheet};
 ghost use Rattle.words.specs.Sheets.{swapped};
 
 // How many words of sheet s are not zero.
-pub fn nonzero_words(limit: &[u8; 8], s: usize) -> usize
+pub fn nonzero_words(nonzero: &[u8; 8], s: usize) -> usize
     requires { ⌜ s < 8 ⌝ }
-    ensures { λ r. ⌜ (r ≡ getD (now (limit .entry)) s 0) × (r < 256) ⌝ }
+    ensures { λ r. ⌜ (r ≡ getD (now (nonzero .entry)) s 0) × (r < 256) ⌝ }
 {
-    book::fields::wide(limit[s])
+    book::fields::wide(nonzero[s])
 }
 
 // The word number at position p of the index of sheet s.
@@ -24,17 +24,17 @@ pub fn word_number(index: &[u8; 64], s: usize, p: usize) -> usize
     book::fields::wide(index[8 * s + p])
 }
 
-// Position p of the index of sheet s, whose word became zero, goes past the limit: it changes places with the last one before the limit.
-pub fn drop_word(index: &mut [u8; 64], limit: &mut [u8; 8], s: usize, p: usize)
-    requires { ⌜ (s < 8) × (p < getD (now limit) s 0) × (getD (now limit) s 0 ≤ 8) ⌝ }
-    ensures { λ r. ⌜ (now (index .exit) ≡ swapped (now (index .entry)) (8 * s + p) (8 * s + (getD (now (limit .entry)) s 0 - 1))) × (now (limit .exit) ≡ set (now (limit .entry)) s (getD (now (limit .entry)) s 0 - 1)) ⌝ }
+// Position p of the index of sheet s, whose word became zero, goes past the limit: it changes places with the last one at or below it.
+pub fn drop_word(index: &mut [u8; 64], nonzero: &mut [u8; 8], s: usize, p: usize)
+    requires { ⌜ (s < 8) × (p < getD (now nonzero) s 0) × (getD (now nonzero) s 0 ≤ 8) ⌝ }
+    ensures { λ r. ⌜ (now (index .exit) ≡ swapped (now (index .entry)) (8 * s + p) (8 * s + (getD (now (nonzero .entry)) s 0 - 1))) × (now (nonzero .exit) ≡ set (now (nonzero .entry)) s (getD (now (nonzero .entry)) s 0 - 1)) ⌝ }
 {
-    let n = limit[s] - 1;
+    let n = nonzero[s] - 1;
     let last = 8 * s + book::fields::wide(n);
     let at = 8 * s + p;
     let x = index[at];
     let y = index[last];
     index[at] = y;
     index[last] = x;
-    limit[s] = n;
+    nonzero[s] = n;
 }

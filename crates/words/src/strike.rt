@@ -61,15 +61,15 @@ fn strike(
     dom: &mut [u32; 16],
     live: &[u64; 64],
     index: &[u8; 64],
-    limit: &[u8; 8],
+    nonzero: &[u8; 8],
 ) -> u32
-    requires { ⌜ AtSheet (now book) first s × Inside (now book) s (now live) × IndexOf s (now live) (now index) (now limit) × Sized (now live) (now index) (now limit) × IsStore 16 (now dom) ⌝ }
+    requires { ⌜ AtSheet (now book) first s × Inside (now book) s (now live) × IndexOf s (now live) (now index) (now nonzero) × Sized (now live) (now index) (now nonzero) × IsStore 16 (now dom) ⌝ }
     ensures { λ r. ⌜ Struck (now (book .entry)) s (now (live .entry)) (now (dom .entry)) (now (dom .exit)) r ⌝ }
 {
     let mut x = [1u32; 4];
     let mut y = [0u32; 4];
     wanted(book, first, s, dom, &mut x);
-    carried(book, first, s, &x, &mut y, live, index, limit);
+    carried(book, first, s, &x, &mut y, live, index, nonzero);
     strike_to(book, first, s, &y, dom)
 }
 
@@ -83,16 +83,16 @@ pub fn revise(
     dom: &mut [u32; 16],
     live: &mut [u64; 64],
     index: &mut [u8; 64],
-    limit: &mut [u8; 8],
+    nonzero: &mut [u8; 8],
 ) -> u32
-    requires { ⌜ AtSheet (now book) first s × SheetKnown (now book) s changed (now dom) (now live) (now index) (now limit) × Sized (now live) (now index) (now limit) × IsStore 16 (now dom) × Carried opening (now book) s (now dom) (now live) ⌝ }
-    ensures { λ r. ⌜ Revised (now (book .entry)) s (now (dom .entry)) (now (live .entry)) (now (index .entry)) (now (limit .entry)) (now (dom .exit)) (now (live .exit)) (now (index .exit)) (now (limit .exit)) r ⌝ }
+    requires { ⌜ AtSheet (now book) first s × SheetKnown (now book) s changed (now dom) (now live) (now index) (now nonzero) × Sized (now live) (now index) (now nonzero) × IsStore 16 (now dom) × Carried opening (now book) s (now dom) (now live) ⌝ }
+    ensures { λ r. ⌜ Revised (now (book .entry)) s (now (dom .entry)) (now (live .entry)) (now (index .entry)) (now (nonzero .entry)) (now (dom .exit)) (now (live .exit)) (now (index .exit)) (now (nonzero .exit)) r ⌝ }
 {
-    if cut_places(book, first, s, changed, opening, dom, live, index, limit) {
-        if limit[s] == 0 {
+    if cut_places(book, first, s, changed, opening, dom, live, index, nonzero) {
+        if nonzero[s] == 0 {
             return 0;
         }
-        return strike(book, first, s, dom, live, index, limit);
+        return strike(book, first, s, dom, live, index, nonzero);
     }
     0
 }

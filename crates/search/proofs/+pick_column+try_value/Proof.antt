@@ -75,10 +75,10 @@ tries t = (
 )
 
 abbrev pick-column-Inv-loop : pick-column-lts.InvT-loop
-pick-column-Inv-loop book first mask dom live index limit c rest₀ rest = Untried book dom c rest
+pick-column-Inv-loop book first mask dom live index nonzero c rest₀ rest = Untried book dom c rest
 
 abbrev pick-column-μ-loop : pick-column-lts.MeasureT-loop
-pick-column-μ-loop book first mask dom live index limit c rest₀ rest = rest
+pick-column-μ-loop book first mask dom live index nonzero c rest₀ rest = rest
 
 pick-column-open-column-requires : (t : ℕ) → pick-column-lts.Need-open-column-requires (picks t) (pick-column-at t) pick-column.Post pick-column-Inv-loop pick-column-μ-loop
 pick-column-open-column-requires t c κs = search needs

@@ -15,11 +15,11 @@ use Rattle.engine.proofs.propagate.propagate.Statement.{statement}
 use Rattle.engine.proofs.propagate.propagate.Tie as tie
 
 abbrev Inv-loop : tie.InvT-loop
-Inv-loop book first mask waiting column opening dom₀ live₀ index₀ limit₀ changed₀ left₀ dom live index limit changed left =
-    Going book opening dom₀ dom live index limit changed left
+Inv-loop book first mask waiting column opening dom₀ live₀ index₀ nonzero₀ changed₀ left₀ dom live index nonzero changed left =
+    Going book opening dom₀ dom live index nonzero changed left
 
 abbrev μ-loop : tie.MeasureT-loop
-μ-loop book first mask waiting column opening dom₀ live₀ index₀ limit₀ changed₀ left₀ dom live index limit changed left =
+μ-loop book first mask waiting column opening dom₀ live₀ index₀ nonzero₀ changed₀ left₀ dom live index nonzero changed left =
     256 * values 16 dom + left
 
 loop-holds : tie.Need-loop-holds Inv-loop μ-loop

@@ -10,10 +10,10 @@ use Rattle.engine.proofs.state.fill_rows.Statement.{statement}
 use Rattle.engine.proofs.state.fill_rows.Tie as tie
 
 abbrev Inv-loop : tie.InvT-loop
-Inv-loop book live₀ limit₀ n s₀ live limit s = FullRows book s live limit × (s ≤ n)
+Inv-loop book live₀ nonzero₀ n s₀ live nonzero s = FullRows book s live nonzero × (s ≤ n)
 
 abbrev μ-loop : tie.MeasureT-loop
-μ-loop book live₀ limit₀ n s₀ live limit s = n - s
+μ-loop book live₀ nonzero₀ n s₀ live nonzero s = n - s
 
 sheets-requires : tie.Need-sheets-requires Inv-loop μ-loop
 sheets-requires c κs = head-length _ (c .before .pre .0)
@@ -36,11 +36,11 @@ fill-words-requires c κs =
     let l : head .loop .s < sheetsOf (start .args .book .now) = omega (arith, c .before .before .before .before .sheets .ensures .0, c .before .before .loop-test .taken) in
     (eight-sheets _ (p .0) _ l, omega (arith, c .before .rows .ensures .0, rows-few _ (p .0) _ l), head .loop .inv .0 .words)
 
-add-limit : tie.Need-add-limit Inv-loop μ-loop
-add-limit c = search needs
+add-nonzero : tie.Need-add-nonzero Inv-loop μ-loop
+add-nonzero c = search needs
 
-cast-limit : tie.Need-cast-limit Inv-loop μ-loop
-cast-limit c =
+cast-nonzero : tie.Need-cast-nonzero Inv-loop μ-loop
+cast-nonzero c =
     let at-rows = c .before .before in
     let at-sheets = at-rows .before .before .before in
     let start = at-sheets .before .before in
@@ -48,8 +48,8 @@ cast-limit c =
     let k : at-rows .rows .result ≤ 508 = omega (arith, at-rows .rows .ensures .0, rows-few _ (start .pre .0) _ l) in
     search (needs, k)
 
-element-write-limit : tie.Need-element-write-limit Inv-loop μ-loop
-element-write-limit c =
+element-write-nonzero : tie.Need-element-write-nonzero Inv-loop μ-loop
+element-write-nonzero c =
     let at-sheets = c .before .before .before .before .before in
     let start = at-sheets .before .before in
     let l : c .before .before .before .before .loop .s < sheetsOf (start .args .book .now) = omega (arith, at-sheets .sheets .ensures .0, c .before .before .before .loop-test .taken) in
@@ -81,5 +81,5 @@ returns c =
 pub fill-rows-spec : {M : Type 1} → statement M
 fill-rows-spec =
     tie.close
-    (tie.spec Inv-loop μ-loop sheets-requires loop-holds rows-requires fill-words-requires add-limit cast-limit element-write-limit add-s
+    (tie.spec Inv-loop μ-loop sheets-requires loop-holds rows-requires fill-words-requires add-nonzero cast-nonzero element-write-nonzero add-s
     loop-less loop-again returns)

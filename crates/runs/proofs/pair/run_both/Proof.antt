@@ -1,5 +1,5 @@
 use borrow.Author.Needs.{needs}
-use Rattle.runs.proofs.Runs.{ran-compares}
+use Rattle.runs.proofs.Comparisons.{both-ran, list-ran}
 use Rattle.runs.proofs.pair.run_both.Statement.{statement}
 use Rattle.runs.proofs.pair.run_both.Tie as tie
 
@@ -16,7 +16,11 @@ same-length-2 : tie.Need-same-length-2
 same-length-2 c = search needs
 
 returns : tie.Need-returns
-returns c = ran-compares (c .before .before .before .before .before .before .before .before .run-orders .ensures) (c .before .before .before .before .run-orders2 .ensures)
+returns c =
+    let second = c .before .before .before .before in
+    let first = second .before .before .before .before in
+    let start : tie.Start = search in
+    both-ran (list-ran (start .pre .0) (first .run-orders .ensures)) (list-ran (start .pre .1) (second .run-orders2 .ensures))
 
 pub run-both-spec : {M : Type 1} → statement M
 run-both-spec = tie.close (tie.spec run-orders-requires run-orders-requires-2 same-length same-length-2 returns)

@@ -11,10 +11,10 @@ use borrow.Author.Needs.{needs}
 use Rattle.model.specs.Tests.{oneIf}
 use Rattle.engine.specs.Holds.{SomeSession, Stepped}
 use Rattle.engine.proofs.Lists.{order-part}
-use Rattle.engine.proofs.Steps.{back-holds, back-room, mark-holds, mark-room, narrow-holds, narrow-inside, step-back, step-mark, step-narrow, step-other, step-refused}
+use Rattle.engine.proofs.Steps.{back-room, mark-room, narrow-inside, step-back, step-mark, step-narrow, step-other, step-refused}
 use Rattle.runs.specs.Runs.{RanTo}
 use Rattle.runs.proofs.Promises.{right-list}
-use Rattle.runs.proofs.Runs.{back-wide, counts-none, counts-one, depth-small, more, opened-long, opened-ran, ran-few, ran-from, ran-room, refuses-small}
+use Rattle.runs.proofs.Runs.{counts-none, counts-one, depth-small, more, opened-long, opened-ran, ran-few, ran-from, ran-room, refuses-small}
 use Rattle.runs.proofs.run.run_orders.Statement.{statement}
 use Rattle.runs.proofs.run.run_orders.Tie as tie
 
@@ -64,13 +64,13 @@ refusal-requires c κs = search needs
 
 -- ---- an order's turn, once its refusal is known: the function's start, the layout, the loop's head, and the order's bytes
 abbrev start : tie.After-refusal Inv-loop μ-loop → tie.Start Inv-loop μ-loop
-start c = c .before .before .before .before .before .before .before .before .before .before .before .before .before .before .before .before .before
+start c = c .before .before .before .before .before .before .before .before .before .before .before .before .before .before .before .before
 
 abbrev laid : tie.After-refusal Inv-loop μ-loop → tie.After-lay-out Inv-loop μ-loop
-laid c = c .before .before .before .before .before .before .before .before .before .before .before
+laid c = c .before .before .before .before .before .before .before .before .before .before
 
 abbrev head : tie.After-refusal Inv-loop μ-loop → tie.At-loop Inv-loop μ-loop
-head c = c .before .before .before .before
+head c = c .before .before .before
 
 abbrev bytes : tie.After-refusal Inv-loop μ-loop → List ℕ
 bytes c = let i = head c .loop .i in take (8 * i + 8 - 8 * i) (drop (8 * i) (start c .args .orders .now))
@@ -78,7 +78,7 @@ bytes c = let i = head c .loop .i in take (8 * i + 8 - 8 * i) (drop (8 * i) (sta
 turn : (c : tie.After-refusal Inv-loop μ-loop)
     → (head c .loop .i + 1 ≤ 256) × (72 * (head c .loop .i + 1) + 72 ≤ length (head c .loop .answers)) × (c .refusal .result < 256) × (head c .loop .s .depth ≤ 16)
 turn c =
-    let test = c .before .before .before .loop-test .taken in
+    let test = c .before .before .loop-test .taken in
     let l = head c .loop in
     let h = l .inv .0 in (
       omega (arith, test, right-list _ (start c .pre .list)),
@@ -95,8 +95,9 @@ add-i c = let l = turn c .0 in search (needs, l)
 
 add-accepted : tie.Need-add-accepted Inv-loop μ-loop
 add-accepted c =
-    let l = turn (c .before) .0 in
-    let k = ran-few _ _ _ (head (c .before) .loop .inv .0) in
+    let t : tie.After-refusal Inv-loop μ-loop = search in
+    let l = turn t .0 in
+    let k = ran-few _ _ _ (head t .loop .inv .0) in
     search (needs, l, k)
 
 shared-slice-read-if2 : tie.Need-shared-slice-read-if2 Inv-loop μ-loop
@@ -112,26 +113,20 @@ wide-requires c κs = search needs
 mask-of-requires : tie.Need-mask-of-requires Inv-loop μ-loop
 mask-of-requires c κs = search needs
 
-narrowed-requires : tie.Need-narrowed-requires Inv-loop μ-loop
-narrowed-requires c κs =
-    let t = c .before .before .before .before .before .before .before .before in
+narrow-requires : tie.Need-narrow-requires Inv-loop μ-loop
+narrow-requires c κs =
+    let t : tie.After-refusal Inv-loop μ-loop = search in
     let inside = narrow-inside _ _ _ (t .refusal .ensures) (c .before .before .before .before .before .before .before .if1 .taken) (some t) (c .before .before .before .before .before .if2 .taken) in
-    (start t .pre .book, laid t .lay-out .ensures, rw (c .before .wide .ensures .0) inside, record { stands = _; is = some t .holds .current })
+    (start t .pre .book, laid t .lay-out .ensures, rw (c .before .wide .ensures .0) inside, some t)
 
 -- ---- a mark
 shared-slice-read-if3 : tie.Need-shared-slice-read-if3 Inv-loop μ-loop
 shared-slice-read-if3 c = search needs
 
-mul-st : tie.Need-mul-st Inv-loop μ-loop
-mul-st c = search needs
-
-element-set-from-st : tie.Need-element-set-from-st Inv-loop μ-loop
-element-set-from-st c =
-    let t = c .before .before .before .before .before in
+mark-requires : tie.Need-mark-requires Inv-loop μ-loop
+mark-requires c κs =
+    let t : tie.After-refusal Inv-loop μ-loop = search in
     mark-room _ _ _ (t .refusal .ensures) (c .before .before .before .before .if1 .taken) (some t) (c .if3 .taken)
-
-add-s : tie.Need-add-s Inv-loop μ-loop
-add-s c = search needs
 
 -- ---- a back
 shared-slice-read-if4 : tie.Need-shared-slice-read-if4 Inv-loop μ-loop
@@ -143,37 +138,24 @@ shared-slice-read-wide-2 c = search needs
 wide-requires-2 : tie.Need-wide-requires-2 Inv-loop μ-loop
 wide-requires-2 c κs = search needs
 
-back : (c : tie.After-wide2 Inv-loop μ-loop) → let d = head (c .before .before .before .before .before .before .before .before .before) .loop .s .depth in (1 ≤ c .wide2 .result) × (c .wide2 .result ≤ d) × (d ≤ 16)
-back c =
-    let t = c .before .before .before .before .before .before .before .before .before in
-    back-wide (c .wide2 .ensures .0) (back-room _ _ _ (t .refusal .ensures) (c .before .before .before .before .before .before .before .before .if1 .taken) (some t) (c .before .before .if4 .taken))
-
-sub-m : tie.Need-sub-m Inv-loop μ-loop
-sub-m c = let q = back c in search (needs, q .0)
-
-mul-s : tie.Need-mul-s Inv-loop μ-loop
-mul-s c = search needs
-
-element-copy-out-s : tie.Need-element-copy-out-s Inv-loop μ-loop
-element-copy-out-s c = let q = back c in omega (arith, q .0, q .1, q .2)
+back-requires : tie.Need-back-requires Inv-loop μ-loop
+back-requires c κs =
+    let t : tie.After-refusal Inv-loop μ-loop = search in
+    rw (c .wide2 .ensures .0) (back-room _ _ _ (t .refusal .ensures) (c .before .before .before .before .before .before .before .before .if1 .taken) (some t) (c .before .before .if4 .taken))
 
 -- ---- its answer
 stepped : (c : tie.Joined1 Inv-loop μ-loop)
     → let t = c .before in Stepped (start t .args .book .now) (head t .loop .s) (bytes t) (c .if1 .s) × (c .if1 .accepted ≡ head t .loop .accepted + oneIf (eqb (t .refusal .result) 0))
 stepped c =
-    let f = c .before .refusal .ensures in
-    let h = some (c .before) in
+    let t : tie.After-refusal Inv-loop μ-loop = search in
+    let f = t .refusal .ensures in
     ⊎-elim (λ w. (
-      rw (w .9) (step-narrow _ _ _ f (w .0 .taken) _ (w .2 .taken) (w .6 .ensures .0) (w .7 .ensures) (narrow-holds _ _ (w .8 .ensures) refl refl)),
+      rw (w .9) (step-narrow _ _ _ f (w .0 .taken) _ (w .2 .taken) (w .6 .ensures .0) (w .7 .ensures) (w .8 .ensures)),
       w .10 ∙ counts-one _ (w .0 .taken),
     ))
+    (⊎-elim (λ w. (rw (w .6) (step-mark _ _ _ f (w .0 .taken) _ (w .4 .taken) (w .5 .ensures)), w .7 ∙ counts-one _ (w .0 .taken)))
     (⊎-elim (λ w. (
-      rw (w .5) (step-mark _ _ _ f (w .0 .taken) _ (w .4 .taken) (mark-holds _ _ refl refl refl (mark-room _ _ _ f (w .0 .taken) h (w .4 .taken)))),
-      w .6 ∙ counts-one _ (w .0 .taken),
-    ))
-    (⊎-elim (λ w. (
-      let q = back-wide (w .8 .ensures .0) (back-room _ _ _ f (w .0 .taken) h (w .6 .taken)) in
-          rw (w .10) (step-back _ _ _ f (w .0 .taken) _ (w .6 .taken) (w .8 .ensures .0) (back-holds _ _ refl refl refl (q .0) (q .1))),
+      rw (w .10) (step-back _ _ _ f (w .0 .taken) _ (w .6 .taken) (w .8 .ensures .0) (w .9 .ensures)),
       w .11 ∙ counts-one _ (w .0 .taken),
     ))
     (⊎-elim (λ w. (rw (w .7) (step-other _ _ _ f (w .0 .taken) (w .2 .left) (w .4 .left) (w .6 .left)), w .8 ∙ counts-one _ (w .0 .taken)))
@@ -182,9 +164,10 @@ stepped c =
 
 show-order-requires : tie.Need-show-order-requires Inv-loop μ-loop
 show-order-requires c κs =
-    let t = c .before .before .before .before .before in
+    let t : tie.After-refusal Inv-loop μ-loop = search in
     let q = turn t in
-    let h = stepped (c .before .before .before .before) .0 _ (some t .holds) in (
+    let j : tie.Joined1 Inv-loop μ-loop = search in
+    let h = stepped j .0 .holds _ (some t .holds) in (
       start t .pre .book,
       laid t .lay-out .ensures,
       record { stands = _; is = h .current },
@@ -200,10 +183,11 @@ loop-less c = search needs
 
 loop-again : tie.Need-loop-again Inv-loop μ-loop
 loop-again c =
-    let t = c .before .before .before .before .before .before .before .before in
+    let t : tie.After-refusal Inv-loop μ-loop = search in
     let l = head t .loop in
-    let s = stepped (c .before .before .before .before .before .before .before) in
-    let test = t .before .before .before .loop-test .taken in (
+    let j : tie.Joined1 Inv-loop μ-loop = search in
+    let s = stepped j in
+    let test = t .before .before .loop-test .taken in (
       more _ _ _ (order-part (start t .args .orders .now) (l .i) _ _ refl refl) (omega (arith, test, l .inv .2)) (l .inv .0) (t .refusal .ensures)
           (s .0) (s .1) (c .before .before .show-order .ensures),
       omega (arith, test),
@@ -229,6 +213,6 @@ pub run-orders-spec : {M : Type 1} → statement M
 run-orders-spec =
     tie.close
     (tie.spec Inv-loop μ-loop lay-out-requires opened-requires loop-holds mul-order mul-order-2 add-order sub-order part-order-start part-order-end
-    refusal-requires add-i add-accepted shared-slice-read-if2 shared-slice-read-wide wide-requires mask-of-requires narrowed-requires
-    shared-slice-read-if3 mul-st element-set-from-st add-s shared-slice-read-if4 shared-slice-read-wide-2 wide-requires-2 sub-m mul-s
-    element-copy-out-s show-order-requires loop-less loop-again same-length returns)
+    refusal-requires add-i add-accepted shared-slice-read-if2 shared-slice-read-wide wide-requires mask-of-requires narrow-requires
+    shared-slice-read-if3 mark-requires shared-slice-read-if4 shared-slice-read-wide-2 wide-requires-2 back-requires show-order-requires
+    loop-less loop-again same-length returns)

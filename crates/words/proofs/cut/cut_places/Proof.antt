@@ -12,10 +12,10 @@ use Rattle.words.proofs.cut.cut_places.Statement.{statement}
 use Rattle.words.proofs.cut.cut_places.Tie as tie
 
 abbrev Inv-loop : tie.InvT-loop
-Inv-loop book first s changed opening dom live₀ index₀ limit₀ k any₀ j₀ live index limit any j = CutBy (passesBelow book s changed dom j) s live₀ index₀ limit₀ live index limit × Inside book s live × (j ≤ k) × (any ≡ false → (opening ≡ false) × (live ≡ live₀))
+Inv-loop book first s changed opening dom live₀ index₀ nonzero₀ k any₀ j₀ live index nonzero any j = CutBy (passesBelow book s changed dom j) s live₀ index₀ nonzero₀ live index nonzero × Inside book s live × (j ≤ k) × (any ≡ false → (opening ≡ false) × (live ≡ live₀))
 
 abbrev μ-loop : tie.MeasureT-loop
-μ-loop book first s changed opening dom live₀ index₀ limit₀ k any₀ j₀ live index limit any j = k - j
+μ-loop book first s changed opening dom live₀ index₀ nonzero₀ k any₀ j₀ live index nonzero any j = k - j
 
 width-requires : tie.Need-width-requires Inv-loop μ-loop
 width-requires c κs = (head-there (c .before .pre .0), eight (c .before .pre .0))

@@ -37,8 +37,8 @@ element-write-index c = search needs
 element-write-index-2 : tie.Need-element-write-index-2
 element-write-index-2 c = search needs
 
-element-write-limit : tie.Need-element-write-limit
-element-write-limit c = search needs
+element-write-nonzero : tie.Need-element-write-nonzero
+element-write-nonzero c = search needs
 
 returns : tie.Need-returns
 unfolding swapped
@@ -48,4 +48,4 @@ pub drop-word-spec : {M : Type 1} → statement M
 drop-word-spec =
     tie.close
     (tie.spec element-copy-out-n sub-n mul-last wide-requires add-last mul-at add-at element-copy-out-x element-copy-out-y element-write-index
-    element-write-index-2 element-write-limit returns)
+    element-write-index-2 element-write-nonzero returns)

@@ -1,0 +1,143 @@
+-- The closure of a book with one sheet: what the rows that are valid in A support is a consistent store, since those rows are valid in it
+-- too. Assumes nothing.
+use mathlib.Core.Path.{_∙_, _≡_, ap, refl, subst⁻¹, sym}
+use mathlib.Core.Bool.{Bool, _&&_, true}
+use mathlib.Core.Logic.{_⊎_, inl, inr}
+use mathlib.Core.List.{List, List·Memᴰ, List·Memᴰ·head, List·Memᴰ·not-nil, List·Memᴰ·tail, [], _∷_}
+use Prim.Native.Nat.{_<_, ℕ}
+use lib.Dec.{ltb}
+use lib.ListN.{getD, length}
+use borrow.Author.Tests.{lt-ltb}
+use Rattle.model.specs.Books.{Book, ConsistentStore, Sheet, Stays, Support, WellFormed, WellFormedSheet, closure, columnCount, supportedIn}
+use Rattle.model.specs.States.{OneSheet, OneSheets, validRow}
+use Rattle.model.specs.Stores.{IsStore, Within, has, storeOf}
+use Rattle.model.proofs.Books.{distinct, place-or-none, stays-iff, support-e, support-i, support-mono}
+use Rattle.model.proofs.Choices.{length-pick, pick-e, pick-i}
+use Rattle.model.proofs.Rows.{support-iff, valid-e, valid-i}
+use Rattle.model.proofs.Stores.{has-e, has-i, in-store}
+use Rattle.model.proofs.Tests.{and-i, and-l, and-r}
+
+-- a list of one has no other element
+alone : {A : Type 0} (x y : A) → List·Memᴰ x (y ∷ []) → x ≡ y
+alone x y (List·Memᴰ·head e) = e
+alone x y (List·Memᴰ·tail m) = absurd (List·Memᴰ·not-nil m)
+
+module _ (b : Book) (s : Sheet) (A : List ℕ) (p : WellFormed b) (only : b .sheets ≡ s ∷ []) (a : IsStore (columnCount b) A)
+    (f : (c : ℕ) → c < columnCount b → (v : ℕ) × (has A c v ≡ true)) where
+  member : List·Memᴰ s (b .sheets)
+  member = rw only (List·Memᴰ·head refl)
+
+  well : WellFormedSheet (b .counts) s
+  well = p .sheet s member
+
+  -- what the sheet supports in A, in its own columns; all of A in any other
+  abbrev keeps : ℕ → ℕ → Bool
+  keeps c v = has A c v && supportedIn A c v s
+
+  abbrev left : List ℕ
+  left = storeOf (columnCount b) keeps
+
+  left-i : (c v : ℕ) → has A c v ≡ true → ((i : ℕ) → i < length (s .columns) → getD (s .columns) i 0 ≡ c → Support A s i v) → has left c v ≡ true
+  left-i c v e h =
+      let i = in-store (columnCount b) A a c v e in
+      has-i (columnCount b) keeps c v (i .0) (i .1) (and-i e (support-i A (a .bits) s c v h))
+
+  left-within : Within left A
+  left-within = record { at = λ c v e. and-l _ _ (has-e (columnCount b) keeps c v e .2) }
+
+  left-own : (i : ℕ) → i < length (s .columns) → (v : ℕ) → has left (getD (s .columns) i 0) v ≡ true → Support A s i v
+  left-own i l v e =
+      support-e A (b .counts) s well i l v (and-r (has A (getD (s .columns) i 0) v) _ (has-e (columnCount b) keeps (getD (s .columns) i 0) v e .2))
+
+  -- every value of a valid row is left
+  row-left : (i v : ℕ) (k : Support A s i v) (j : ℕ) → j < length (s .columns) → has left (getD (s .columns) j 0) (getD (k .row) j 0) ≡ true
+  row-left i v k j l =
+      left-i (getD (s .columns) j 0) (getD (k .row) j 0)
+      (pick-e A (s .columns) j (getD (k .row) j 0) (k .valid .each j (rw (length-pick A (s .columns)) l)) .1)
+      (λ n m q.
+      record {
+        row = k .row;
+        sheet-allows = k .sheet-allows;
+        valid = k .valid;
+        value = ap (λ (x : ℕ). getD (k .row) x 0) (distinct (s .columns) (well .rising) n j m l q);
+      })
+
+  -- so it is valid in what is left
+  support-left : (i v : ℕ) → Support A s i v → Support left s i v
+  support-left i v k =
+      record {
+        row = k .row;
+        sheet-allows = k .sheet-allows;
+        valid =
+            record {
+              size = k .valid .size ∙ length-pick A (s .columns) ∙ sym (length-pick left (s .columns));
+              each = λ j m.
+                  let l : j < length (s .columns) = rw (length-pick left (s .columns)) at m in
+                  pick-i left (s .columns) j (getD (k .row) j 0) l (row-left i v k j l);
+            };
+        value = k .value;
+      }
+
+  -- with a valid row, what is left is consistent
+  consistent : (i v : ℕ) → Support A s i v → ConsistentStore b left
+  consistent i v k =
+      record {
+        filled = λ c l. filled c l (place-or-none (s .columns) c);
+        support = λ t m.
+            subst⁻¹ (λ (t : Sheet). (i : ℕ) → i < length (t .columns) → (v : ℕ) → has left (getD (t .columns) i 0) v ≡ true → Support left t i v)
+            (alone t s (rw only at m)) (λ i l v e. support-left i v (left-own i l v e));
+      }
+    where
+      filled : (c : ℕ) → c < columnCount b
+          → ((i : ℕ) × (i < length (s .columns)) × (getD (s .columns) i 0 ≡ c)) ⊎ ((i : ℕ) → i < length (s .columns) → getD (s .columns) i 0 ≡ c → ⊥)
+          → (v : ℕ) × (has left c v ≡ true)
+      filled c l (inl j) = (getD (k .row) (j .0) 0, rw (j .2) at (row-left i v k (j .0) (j .1)))
+      filled c l (inr n) = let r = f c l in (r .0, left-i c (r .0) (r .1) (λ j m q. absurd (n j m q)))
+
+  -- with a valid row, what is left stays
+  left-stays : (i v : ℕ) → Support A s i v → (c w : ℕ) → has left c w ≡ true → has (closure b A) c w ≡ true
+  left-stays i v k c w e =
+      stays-iff b p A a c w .1 (record { store = left; consistent = consistent i v k; within = left-within; holds = e })
+
+  -- a value of a consistent store within A is supported in A
+  stays-own : (c w : ℕ) (h : Stays b A c w) (i : ℕ) → i < length (s .columns) → (v : ℕ) → has (h .store) (getD (s .columns) i 0) v ≡ true → Support A s i v
+  stays-own c w h i l v e = support-mono (h .store) A (h .within) s i v (h .consistent .support s member i l v e)
+
+  one-sheet : OneSheet b s A
+  unfolding validRow
+  one-sheet =
+      record {
+        row = λ r m. (
+          λ e i l.
+              pick-e A (s .columns) i _
+              (valid-e A (s .columns) (getD (s .rows) r []) (and-r (ltb r (length (s .rows))) _ e) .each i (rw (length-pick A (s .columns)) l)) .1,
+          λ h. and-i (lt-ltb r (length (s .rows)) m)
+              (valid-i A (s .columns) (getD (s .rows) r [])
+              (record {
+                size = well .row-size r m ∙ sym (length-pick A (s .columns));
+                each = λ i n. let l : i < length (s .columns) = rw (length-pick A (s .columns)) at n in pick-i A (s .columns) i _ l (h i l);
+              })),
+        );
+        own = λ i l v. (
+          λ e.
+              let h = stays-iff b p A a (getD (s .columns) i 0) v .0 e in
+              let k = support-iff A s i v .0 (stays-own _ _ h i l v (h .holds)) in
+              (k .row, k .is-valid, k .value),
+          λ r.
+              let k = support-iff A s i v .1 (record { row = r .0; is-valid = r .1; value = r .2 }) in
+              left-stays i v k (getD (s .columns) i 0) v (rw (k .value) at (row-left i v k i l)),
+        );
+        other = λ c n v. (
+          λ e.
+              let h = stays-iff b p A a c v .0 e in
+              let w = h .consistent .filled (getD (s .columns) 0 0) (well .inside 0 (well .some-column)) in
+              let k = support-iff A s 0 (w .0) .0 (stays-own c v h 0 (well .some-column) (w .0) (w .1)) in
+              (h .within .at c v (h .holds), (k .row, k .is-valid)),
+          λ r.
+              left-stays 0 _ (support-iff A s 0 _ .1 (record { row = r .1 .0; is-valid = r .1 .1; value = refl })) c v
+              (left-i c v (r .0) (λ i l q. absurd (n i l q))),
+        );
+      }
+
+pub oneSheets : OneSheets
+oneSheets = one-sheet

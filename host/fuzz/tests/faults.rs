@@ -122,7 +122,7 @@ fn the_stack_of_a_run() {
         "stack in bytes: check {check}, run {opening}, with a finish of 0 open columns {of_0}, of 8 \
          {of_8}, of 16 {of_16}, after 16 marks {after_marks}"
     );
-    assert!(check < 1_024 && opening < 16_384);
+    assert!(check < 1_024 && opening < 24_576);
     assert!(of_0 < of_8 && of_8 < of_16);
-    assert!(of_16.max(after_marks) < 32_768 + 4_096);
+    assert!(of_16.max(after_marks) < 40_960 + 4_096);
 }

@@ -1,5 +1,2 @@
--- The laws behind the writers: bytes written over a space, counts of masks, status and done byte, and the answer of a state.
-pub mod Overs
-pub mod Counts
-pub mod Statuses
-pub mod States
+-- The laws behind the writer: the parts of an answer put one after the other, and answers one after the other.
+pub mod Answers

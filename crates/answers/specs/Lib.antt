@@ -1,3 +1,2 @@
--- Shows: status and done byte from masks, as the code has them. Parts: an answer of the domains, and its part of the answer space.
-pub mod Shows
-pub mod Parts
+-- The answer that the code's struct holds.
+pub mod Answers

@@ -2,7 +2,7 @@
 use mathlib.Core.Path.{refl}
 use Rattle.model.specs.Tests.{anyBelow, sum, lowest, tab}
 use Rattle.book.specs.Blocks.{wrongLength, wordSum, checkOf, wrongCheck, firstWrongCheck}
-use Rattle.book.specs.Head.{wrongLetters, wrongColumns, wrongSheets, wrongValues, wrongWidth, notRising, wrongColumn, wrongRows, wrongInEntry, wrongEntry, wrongField, firstWrongField}
+use Rattle.book.specs.Heads.{wrongLetters, wrongColumns, wrongSheets, wrongValues, wrongWidth, notRising, wrongColumn, wrongRows, wrongInEntry, wrongEntry, wrongField, firstWrongField}
 use Rattle.book.specs.Rows.{blocksOf, firstBlock, blocksNeeded, rowPlace, placeBound, boundOf, wrongByte, wrongBlock, wrongSheet, kindOf, faultAt, faultInBlock, faultInSheet, firstFault}
 use Rattle.book.specs.Verdicts.{verdict, checkResult}
 use Rattle.book.specs.Decoding.{rowOf, sheetOf, bookOf}

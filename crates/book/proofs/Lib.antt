@@ -1,11 +1,10 @@
--- The laws behind the format's functions: numbers and bytes, the head field by field, the rows, the verdict, and the decoded book.
-
+-- The laws behind the format's functions: what a field must not be, blocks, the head field by field, the rows, the verdict, the decoded book, and how a
+-- block is looked at.
 pub mod Acceptance
-pub mod Numbers
-pub mod Offsets
-pub mod Right
-pub mod Words
+pub mod Limits
+pub mod Blocks
+pub mod Heads
+pub mod Rows
 pub mod Bounds
-pub mod Faults
-pub mod Results
-pub mod Decoded
+pub mod Verdicts
+pub mod Decoding

@@ -6,10 +6,10 @@ use mathlib.Core.Bool.{true, false}
 use mathlib.Core.List.{List, [], _∷_, _++_}
 use Prim.Native.Nat.{ℕ, suc, _-_}
 use lib.ListN.{length, replicate, set}
-use Rattle.model.specs.Answers.{wordBytes}
+use Rattle.fields.specs.Bytes.{wordBytes}
 use Rattle.model.specs.Acceptance.{H}
 use Rattle.book.specs.Blocks.{wrongLength, checkOf}
-use Rattle.book.specs.Head.{wrongField, firstWrongField}
+use Rattle.book.specs.Heads.{wrongField, firstWrongField}
 use Rattle.book.specs.Rows.{blocksOf, blocksNeeded, rowPlace, wrongByte, tooLarge, notZero, fault, kindOf, firstFault, blockOf}
 use Rattle.book.specs.Decoding.{bookOf}
 
@@ -80,7 +80,7 @@ pub record BlockFacts : Type 0 where
 -- (the definition of a new field also joins `computing` in proofs/Acceptance.antt: the examples compute only what is opened there)
 pub record FieldFacts : Type 0 where
   pub right : firstWrongField head ≡ 508
-  pub letters : wrongField (set head 3 50) 0 ≡ true
+  pub letters : wrongField (set head 3 48) 0 ≡ true
   pub no-column : wrongField (set head 4 0) 4 ≡ true
   pub most-columns : wrongField (set head 4 16) 4 ≡ false
   pub many-columns : wrongField (set head 4 17) 4 ≡ true

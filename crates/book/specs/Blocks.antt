@@ -6,7 +6,8 @@ use Prim.Native.Nat.{ℕ, _+_, _*_, _/_, _%_, _^_}
 use lib.Dec.{eqb}
 use lib.ListN.{length, take, drop}
 use Rattle.model.specs.Tests.{NoneIn, lowest, sum}
-use Rattle.book.specs.Fields.{outOfRange, wordAt}
+use Rattle.fields.specs.Bytes.{wordAt}
+use Rattle.book.specs.Limits.{outOfRange}
 
 -- "the length isn't a multiple of 512 from 512 to 16,896"
 unfoldable pub wrongLength : List ℕ → Bool

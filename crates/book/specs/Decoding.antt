@@ -5,8 +5,8 @@ use Prim.Native.Nat.{ℕ, _+_, _*_}
 use lib.ListN.{length}
 use Rattle.model.specs.Books.{Book, Sheet, WellFormed, columnCount}
 use Rattle.model.specs.Tests.{tab}
-use Rattle.book.specs.Fields.{byteAt}
-use Rattle.book.specs.Head.{columnOf, columnsOf, rowsOf, sheetsOf, valuesOf, widthOf}
+use Rattle.fields.specs.Bytes.{byteAt}
+use Rattle.book.specs.Heads.{columnOf, columnsOf, rowsOf, sheetsOf, valuesOf, widthOf}
 use Rattle.book.specs.Rows.{rowPlace}
 use Rattle.book.specs.Verdicts.{Accepted, checkResult}
 

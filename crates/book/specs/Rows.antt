@@ -4,8 +4,8 @@ use mathlib.Core.List.{List}
 use Prim.Native.Nat.{ℕ, _+_, _*_, _/_, _%_}
 use lib.Dec.{ltb, leb}
 use Rattle.model.specs.Tests.{anyBelow, lowest, sum}
-use Rattle.book.specs.Fields.{byteAt}
-use Rattle.book.specs.Head.{columnOf, rowsOf, sheetsOf, valuesOf, widthOf}
+use Rattle.fields.specs.Bytes.{byteAt}
+use Rattle.book.specs.Heads.{columnOf, rowsOf, sheetsOf, valuesOf, widthOf}
 
 -- ---- where rows stand
 -- "Each sheet in turn then has as many blocks as n / 127 rounded up."

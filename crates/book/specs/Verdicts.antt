@@ -4,7 +4,7 @@ use mathlib.Core.List.{List}
 use Prim.Native.Nat.{ℕ, _+_, _*_, _<_}
 use lib.Dec.{ltb, eqb}
 use Rattle.book.specs.Blocks.{wrongLength, blockCount, firstWrongCheck}
-use Rattle.book.specs.Head.{columnsOf, sheetsOf, firstWrongField}
+use Rattle.book.specs.Heads.{columnsOf, sheetsOf, firstWrongField}
 use Rattle.book.specs.Rows.{blocksNeeded, RowFault, clean, fault, firstFault, blockOf}
 
 -- "Refused with" 1 to 5, each with its place, or "Accepted" with C and S

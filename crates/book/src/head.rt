@@ -1,10 +1,16 @@
 // Block 0, the head: each field, and what is wrong in it. The layout is drawn in specs/Head.antt.
-use crate::fields::*;
+use crate::limit::*;
+use fields::half_at;
+use fields::wide;
+use fields::word_at;
 ghost use mathlib.Core.Path.{_≡_};
 ghost use Prim.Native.Nat.{_+_, _*_, _<_, _≤_};
 ghost use lib.ListN.{length};
 ghost use Rattle.model.specs.Tests.{FirstIn};
-ghost use Rattle.book.specs.Head.{columnsOf, sheetsOf, valuesOf, widthOf, columnOf, rowsOf, wrongLetters, wrongColumns, wrongSheets, wrongValues, wrongWidth, notRising, wrongColumn, wrongRows, wrongField};
+ghost use Rattle.book.specs.Heads.{columnsOf, sheetsOf, valuesOf, widthOf, columnOf, rowsOf, wrongLetters, wrongColumns, wrongSheets, wrongValues, wrongWidth, notRising, wrongColumn, wrongRows, wrongField};
+
+// The letters FGB1, 70, 71, 66 and 49, as one number.
+const LETTERS: u32 = 826427206;
 
 // ---- the fields
 
@@ -53,8 +59,7 @@ pub fn rows(h: &[u8], s: usize) -> usize
     requires { ⌜ (512 ≤ length (now h)) × (s < 8) ⌝ }
     ensures { λ r. ⌜ (r ≡ rowsOf (now (h .entry)) s) × (r < 65536) ⌝ }
 {
-    let at = 30 + 8 * s;
-    wide(h[at]) + wide(h[at + 1]) * 256
+    half_at(h, 30 + 8 * s)
 }
 
 // ---- what is wrong in a field: each function has the name of its definition in specs/Head.antt, where the paper's sentence stands
@@ -63,7 +68,7 @@ fn wrong_letters(h: &[u8]) -> bool
     requires { ⌜ 512 ≤ length (now h) ⌝ }
     ensures { λ r. ⌜ r ≡ wrongLetters (now (h .entry)) ⌝ }
 {
-    word_of(h[0], h[1], h[2], h[3]) != 826427206
+    word_at(h, 0) != LETTERS
 }
 
 fn wrong_columns(h: &[u8]) -> bool

@@ -3,22 +3,22 @@
 // Promise: `check` returns `checkResult` of the bytes (specs/Verdicts.antt), for every byte string; an accepted book stands for a well-formed
 // one (specs/Decoding.antt). Each field of the head and each kind of fault has a definition and a function of its own.
 //
-//   fields   the numbers that bytes make
-//   blocks   the 512-byte blocks and their checks
+//   block    the 512-byte blocks and their checks
 //   head     block 0: each field and what it must be
-//   rows     the sheets' blocks: how many, and the first with a wrong byte
-pub mod blocks;
-pub mod fields;
+//   limit    what a field must not be
+//   row      the sheets' blocks: how many, and the first with a wrong byte
+pub mod block;
 pub mod head;
-pub mod rows;
+pub mod limit;
+pub mod row;
 
-use crate::blocks::*;
+use crate::block::*;
 use crate::head::*;
-use crate::rows::*;
+use crate::row::*;
 ghost use mathlib.Core.Path.{_≡_};
 ghost use Prim.Native.Nat.{_<_};
 ghost use Rattle.book.specs.Blocks.{RightLength, RightChecks};
-ghost use Rattle.book.specs.Head.{RightHead};
+ghost use Rattle.book.specs.Heads.{RightHead};
 ghost use Rattle.book.specs.Verdicts.{checkResult, refused};
 
 // A refusal and its place as one number.

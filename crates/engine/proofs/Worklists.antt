@@ -17,13 +17,13 @@ use borrow.Author.Tests.{eqb-false, eqb-true, le-ltb, lt-ltb}
 use Rattle.model.specs.Masks.{bit}
 use Rattle.model.proofs.Masks.{bit-and, bit-of-zero, bit-or, bit-pow, bit-pow-only, bit-pow-other, mask-ext}
 use Rattle.model.proofs.Tests.{and-false, and-i, and-true, below, either, or-e, or-l, or-r}
-use Rattle.book.specs.Head.{columnOf, columnsOf, rowsOf, sheetsOf, valuesOf, widthOf}
+use Rattle.book.specs.Heads.{columnOf, columnsOf, rowsOf, sheetsOf, valuesOf, widthOf}
 use Rattle.book.specs.Rows.{blocksNeeded, blocksOf}
 use Rattle.book.specs.Verdicts.{Accepted}
-use Rattle.book.proofs.Decoded.{accepted-right}
-use Rattle.book.proofs.Faults.{firstBlock-later, firstBlock-more, firstBlock-zero}
-use Rattle.book.proofs.Results.{right-length}
-use Rattle.book.proofs.Right.{columns-range, rows-most, sheets-most, values-range}
+use Rattle.book.proofs.Decoding.{accepted-right}
+use Rattle.book.proofs.Rows.{firstBlock-later, firstBlock-more, firstBlock-zero}
+use Rattle.book.proofs.Verdicts.{right-length}
+use Rattle.book.proofs.Heads.{columns-range, rows-most, sheets-most, values-range}
 use Rattle.words.specs.Sheets.{firstByte}
 use Rattle.words.proofs.Ones.{complement}
 use Rattle.words.proofs.Walks.{shifted-one}
@@ -95,12 +95,12 @@ columns-end e h =
     record { all = λ j l. h .all j (omega arith); only = λ c f. let r = h .only c f in (r .0, omega (arith, r .1), r .2) }
 
 -- ---- the layout, sheet by sheet
-pub record LaidTo (b : List ℕ) (n : ℕ) (first mask : List ℕ) : Type 0 where
-  pub first-size : length first ≡ 8
-  pub mask-size : length mask ≡ 8
-  pub begins : (s : ℕ) → s < n → getD first s 0 ≡ firstByte b s
-  pub columns : (s : ℕ) → s < n → ColumnsIn b s (getD mask s 0)
-  pub past : (s : ℕ) → n ≤ s → getD mask s 0 ≡ 0
+pub record LaidTo (b : List ℕ) (n : ℕ) (begins scopes : List ℕ) : Type 0 where
+  pub begins-size : length begins ≡ 8
+  pub scopes-size : length scopes ≡ 8
+  pub starts : (s : ℕ) → s < n → getD begins s 0 ≡ firstByte b s
+  pub columns : (s : ℕ) → s < n → ColumnsIn b s (getD scopes s 0)
+  pub past : (s : ℕ) → n ≤ s → getD scopes s 0 ≡ 0
 
 pub zeros-at : (n c : ℕ) → _≡_ {A = ℕ} (getD (replicate n 0) c 0) 0
 zeros-at n c = go (below c n)
@@ -109,39 +109,39 @@ zeros-at n c = go (below c n)
     go (inl l) = getD-replicate n c 0 0 l
     go (inr l) = List·getD-eq-default (replicate n 0) 0 (omega (arith, length-replicate {A = ℕ} n 0))
 
-pub laid-none : (b : List ℕ) {first mask : List ℕ} → first ≡ replicate 8 0 → mask ≡ replicate 8 0 → LaidTo b 0 first mask
-laid-none b {first} {mask} e f =
+pub laid-none : (b : List ℕ) {begins scopes : List ℕ} → begins ≡ replicate 8 0 → scopes ≡ replicate 8 0 → LaidTo b 0 begins scopes
+laid-none b {begins} {scopes} e f =
     record {
-      first-size = ap (λ (l : List ℕ). length l) e ∙ length-replicate {A = ℕ} 8 0;
-      mask-size = ap (λ (l : List ℕ). length l) f ∙ length-replicate {A = ℕ} 8 0;
-      begins = λ s l. absurd (omega arith);
+      begins-size = ap (λ (l : List ℕ). length l) e ∙ length-replicate {A = ℕ} 8 0;
+      scopes-size = ap (λ (l : List ℕ). length l) f ∙ length-replicate {A = ℕ} 8 0;
+      starts = λ s l. absurd (omega arith);
       columns = λ s l. absurd (omega arith);
       past = λ s l. ap (λ (l : List ℕ). getD l s 0) f ∙ zeros-at 8 s;
     }
 
-pub laid-more : {b : List ℕ} {n at m : ℕ} {first mask : List ℕ} → LaidTo b n first mask → n < 8 → at ≡ firstByte b n → ColumnsIn b n m
-    → LaidTo b (n + 1) (set first n at) (set mask n m)
-laid-more {b} {n} {at} {m} {first} {mask} h l e k =
+pub laid-more : {b : List ℕ} {n at m : ℕ} {begins scopes : List ℕ} → LaidTo b n begins scopes → n < 8 → at ≡ firstByte b n → ColumnsIn b n m
+    → LaidTo b (n + 1) (set begins n at) (set scopes n m)
+laid-more {b} {n} {at} {m} {begins} {scopes} h l e k =
     record {
-      first-size = length-set first n at ∙ h .first-size;
-      mask-size = length-set mask n m ∙ h .mask-size;
-      begins = λ s q. begins s (below s n) q;
+      begins-size = length-set begins n at ∙ h .begins-size;
+      scopes-size = length-set scopes n m ∙ h .scopes-size;
+      starts = λ s q. starts s (below s n) q;
       columns = λ s q. columns s (below s n) q;
-      past = λ s q. getD-set-other mask n s m 0 (λ z. omega arith) ∙ h .past s (omega arith);
+      past = λ s q. getD-set-other scopes n s m 0 (λ z. omega arith) ∙ h .past s (omega arith);
     }
   where
-    begins : (s : ℕ) → (s < n) ⊎ (n ≤ s) → s < n + 1 → getD (set first n at) s 0 ≡ firstByte b s
-    begins s (inl p) q = getD-set-other first n s at 0 (λ z. omega arith) ∙ h .begins s p
-    begins s (inr p) q =
-        let z : s ≡ n = omega arith in rw z (getD-set-same first n at 0 (omega (arith, h .first-size)) ∙ e)
+    starts : (s : ℕ) → (s < n) ⊎ (n ≤ s) → s < n + 1 → getD (set begins n at) s 0 ≡ firstByte b s
+    starts s (inl p) q = getD-set-other begins n s at 0 (λ z. omega arith) ∙ h .starts s p
+    starts s (inr p) q =
+        let z : s ≡ n = omega arith in rw z (getD-set-same begins n at 0 (omega (arith, h .begins-size)) ∙ e)
 
-    columns : (s : ℕ) → (s < n) ⊎ (n ≤ s) → s < n + 1 → ColumnsIn b s (getD (set mask n m) s 0)
-    columns s (inl p) q = rw (getD-set-other mask n s m 0 (λ z. omega arith)) (h .columns s p)
-    columns s (inr p) q = let z : s ≡ n = omega arith in rw (z, getD-set-same mask n m 0 (omega (arith, h .mask-size))) k
+    columns : (s : ℕ) → (s < n) ⊎ (n ≤ s) → s < n + 1 → ColumnsIn b s (getD (set scopes n m) s 0)
+    columns s (inl p) q = rw (getD-set-other scopes n s m 0 (λ z. omega arith)) (h .columns s p)
+    columns s (inr p) q = let z : s ≡ n = omega arith in rw (z, getD-set-same scopes n m 0 (omega (arith, h .scopes-size))) k
 
-pub laid-end : {b : List ℕ} {n : ℕ} {first mask : List ℕ} → n ≡ sheetsOf b → LaidTo b n first mask → LayoutOf b first mask
+pub laid-end : {b : List ℕ} {n : ℕ} {begins scopes : List ℕ} → n ≡ sheetsOf b → LaidTo b n begins scopes → LayoutOf b begins scopes
 laid-end e h =
-    record { begins = λ s l. h .begins s (omega arith); columns = λ s l. h .columns s (omega arith); past = λ s l. h .past s (omega arith) }
+    record { starts = λ s l. h .starts s (omega arith); columns = λ s l. h .columns s (omega arith); past = λ s l. h .past s (omega arith) }
 
 -- another number than n is below n + 1 exactly when it is below n
 ltb-next : (f n : ℕ) → (f ≡ n → ⊥) → ltb f n ≡ ltb f (n + 1)
@@ -254,9 +254,9 @@ not-false false p = absurd (false≢true (sym p))
 
 -- a sheet with a column in `lost` is one of the book's
 
-pub touched-sheet : {b first M : List ℕ} → LayoutOf b first M → (s lost : ℕ) → touches (getD M s 0) lost ≡ true → s < sheetsOf b
+pub touched-sheet : {b begins M : List ℕ} → LayoutOf b begins M → (s lost : ℕ) → touches (getD M s 0) lost ≡ true → s < sheetsOf b
 unfolding touches
-touched-sheet {b} {first} {M} lay s lost f = go (below s (sheetsOf b))
+touched-sheet {b} {begins} {M} lay s lost f = go (below s (sheetsOf b))
   where
     go : (s < sheetsOf b) ⊎ (sheetsOf b ≤ s) → s < sheetsOf b
     go (inl l) = l
@@ -264,10 +264,10 @@ touched-sheet {b} {first} {M} lay s lost f = go (below s (sheetsOf b))
         absurd (false≢true (sym (ap (λ (x : ℕ). touches x lost) (lay .past s l) ∙ ap (λ (x : ℕ). not (eqb x 0)) (and-zero-l lost)) ∙ f))
 
 -- one without has none of its columns in it
-pub untouched-column : {b first M : List ℕ} → LayoutOf b first M → (s lost j : ℕ) → s < sheetsOf b → j < widthOf b s
+pub untouched-column : {b begins M : List ℕ} → LayoutOf b begins M → (s lost j : ℕ) → s < sheetsOf b → j < widthOf b s
     → touches (getD M s 0) lost ≡ false → bit (columnOf b s j) lost ≡ false
 unfolding touches
-untouched-column {b} {first} {M} lay s lost j l m f = go (either (bit (columnOf b s j) lost))
+untouched-column {b} {begins} {M} lay s lost j l m f = go (either (bit (columnOf b s j) lost))
   where
     go : (bit (columnOf b s j) lost ≡ true) ⊎ (bit (columnOf b s j) lost ≡ false) → bit (columnOf b s j) lost ≡ false
     go (inr e) = e

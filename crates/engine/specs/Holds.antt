@@ -11,7 +11,7 @@ use Rattle.engine.specs.declared.state.State.{State}
 
 -- what stands past the last saved state
 abbrev pub noState : State
-noState = record { dom = []; live = []; index = []; nonzero = [] }
+noState = record { dom = []; valid = []; index = []; nonzero = [] }
 
 -- the session s over the book b when the trail L stands: its state is that of L, its depth the number of checkpoints, and for each checkpoint
 -- it has saved the state of the trail before it: domains, words, index and counts
@@ -40,13 +40,13 @@ abbrev pub BackHolds : ℕ → Session → Session → Type 0
 BackHolds m s t = (b : List ℕ) (L : List Entry) → Holds b L s → Holds b (before m L) t
 
 -- ---- one order
--- r is the refusal of the order o, of kind k, whatever trail of depth d stands; 0 where it is accepted
-abbrev pub RefusesKind : List ℕ → ℕ → ℕ → List ℕ → ℕ → Type 0
-RefusesKind b k d o r = (L : List Entry) → kind o ≡ k → d ≡ depth L → r ≡ refusal (bookOf b) L o
+-- r is the refusal of the order o, whatever trail the session s holds; 0 where it is accepted
+abbrev pub Refuses : List ℕ → Session → List ℕ → ℕ → Type 0
+Refuses b s o r = (L : List Entry) → Holds b L s → r ≡ refusal (bookOf b) L o
 
--- the same of an order of any kind
-abbrev pub Refuses : List ℕ → ℕ → List ℕ → ℕ → Type 0
-Refuses b d o r = (L : List Entry) → d ≡ depth L → r ≡ refusal (bookOf b) L o
+-- the same of any session of this depth
+abbrev pub RefusesAt : List ℕ → ℕ → List ℕ → ℕ → Type 0
+RefusesAt b d o r = (s : Session) → s .depth ≡ d → Refuses b s o r
 
 -- "A session is one value that each order takes and gives back": the order o takes s and gives back t
 pub record Stepped (b : List ℕ) (s : Session) (o : List ℕ) (t : Session) : Type 0 where

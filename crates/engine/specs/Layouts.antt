@@ -1,13 +1,13 @@
 -- What the engine keeps of a book's head.
 --
---     first    | byte where the rows of sheet 0 begin | of sheet 1 | ..        mask    | columns of sheet 0, bit c for column c | of sheet 1 | ..
+--     begins    | byte where the rows of sheet 0 begin | of sheet 1 | ..        scopes    | columns of sheet 0, bit c for column c | of sheet 1 | ..
 use mathlib.Core.Path.{_≡_}
 use mathlib.Core.Bool.{true}
 use mathlib.Core.List.{List}
 use Prim.Native.Nat.{ℕ, _≤_, _<_}
 use lib.ListN.{getD}
 use Rattle.model.specs.Masks.{bit}
-use Rattle.book.specs.Head.{columnOf, sheetsOf, widthOf}
+use Rattle.book.specs.Heads.{columnOf, sheetsOf, widthOf}
 use Rattle.words.specs.Sheets.{firstByte}
 
 -- m has the columns of sheet s, and no other
@@ -16,7 +16,7 @@ pub record ColumnsIn (b : List ℕ) (s m : ℕ) : Type 0 where
   pub only : (c : ℕ) → bit c m ≡ true → (j : ℕ) × (j < widthOf b s) × (columnOf b s j ≡ c)
 
 -- where the rows of each sheet begin, and its columns; nothing past the last sheet
-pub record LayoutOf (b first mask : List ℕ) : Type 0 where
-  pub begins : (s : ℕ) → s < sheetsOf b → getD first s 0 ≡ firstByte b s
-  pub columns : (s : ℕ) → s < sheetsOf b → ColumnsIn b s (getD mask s 0)
-  pub past : (s : ℕ) → sheetsOf b ≤ s → getD mask s 0 ≡ 0
+pub record LayoutOf (b begins scopes : List ℕ) : Type 0 where
+  pub starts : (s : ℕ) → s < sheetsOf b → getD begins s 0 ≡ firstByte b s
+  pub columns : (s : ℕ) → s < sheetsOf b → ColumnsIn b s (getD scopes s 0)
+  pub past : (s : ℕ) → sheetsOf b ≤ s → getD scopes s 0 ≡ 0

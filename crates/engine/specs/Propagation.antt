@@ -10,9 +10,10 @@ use Rattle.model.specs.Masks.{bit, size}
 use Rattle.model.specs.Stores.{has, IsStore, emptyStore}
 use Rattle.model.specs.Books.{closure, columnCount}
 use Rattle.model.specs.States.{Arrays, StateOf}
-use Rattle.book.specs.Head.{columnOf, columnsOf, sheetsOf, widthOf}
+use Rattle.book.specs.Heads.{columnOf, columnsOf, sheetsOf, widthOf}
 use Rattle.book.specs.Decoding.{bookOf}
-use Rattle.words.specs.Sheets.{Sized, IndexOf, SheetKnown, AllCarried}
+use Rattle.words.specs.Looks.{SheetKnown}
+use Rattle.words.specs.Sheets.{Sized, IndexOf}
 
 -- the store in an array of sixteen domains: those of the book's columns
 abbrev pub storeIn : List ℕ → List ℕ → List ℕ
@@ -28,17 +29,16 @@ closureIn b D = closure (bookOf b) (storeIn b D)
 
 -- the four arrays as a state of the model
 abbrev pub arrays : List ℕ → List ℕ → List ℕ → List ℕ → Arrays
-arrays D W X N = record { doms = D; words = W; index = X; nonzero = N }
+arrays D W X N = record { dom = D; valid = W; index = X; nonzero = N }
 
--- no column of the book is empty, and the columns past its last are; each sheet is known but for the columns in `column`. A sheet that does
--- not wait has none of these, and outside the opening every value of every sheet is carried
+-- no column of the book is empty, and the columns past its last are; each sheet is known but for the columns in `column`, and outside the opening
+-- each saw support for every value. A sheet that does not wait has none of these columns
 pub record Ready (b : List ℕ) (opening : Bool) (waiting column : ℕ) (D W X N : List ℕ) : Type 0 where
   pub store : IsStore 16 D
   pub sized : Sized W X N
   pub filled : (c : ℕ) → c < columnsOf b → (v : ℕ) × (has D c v ≡ true)
   pub past : (c v : ℕ) → has D c v ≡ true → c < columnsOf b
-  pub sheet : (s : ℕ) → s < sheetsOf b → SheetKnown b s column D W X N
-  pub carried : (s : ℕ) → s < sheetsOf b → opening ≡ false → AllCarried b s D W
+  pub sheet : (s : ℕ) → s < sheetsOf b → SheetKnown b s column opening D W X N
   pub quiet : (s : ℕ) → s < sheetsOf b → bit s waiting ≡ false
       → (opening ≡ false) × ((j : ℕ) → j < widthOf b s → bit (columnOf b s j) column ≡ false)
   pub used : (s : ℕ) → bit s waiting ≡ true → s < sheetsOf b

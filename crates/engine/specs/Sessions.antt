@@ -13,13 +13,13 @@ use Rattle.engine.specs.declared.state.State.{State}
 
 -- ---- states
 abbrev pub arraysOf : State → Arrays
-arraysOf st = arrays (st .dom) (st .live) (st .index) (st .nonzero)
+arraysOf st = arrays (st .dom) (st .valid) (st .index) (st .nonzero)
 
 -- the state of the trail L: domains, valid rows and index are those of its closure, and the arrays have their sizes
 pub record StateIs (b : List ℕ) (L : List Entry) (st : State) : Type 0 where
   pub holds : StateHolds (bookOf b) L (arraysOf st)
   pub store : IsStore 16 (st .dom)
-  pub sized : Sized (st .live) (st .index) (st .nonzero)
+  pub sized : Sized (st .valid) (st .index) (st .nonzero)
 
 -- a state of some trail
 pub record SomeState (b : List ℕ) (st : State) : Type 0 where
@@ -29,7 +29,7 @@ pub record SomeState (b : List ℕ) (st : State) : Type 0 where
 -- no value and no row; the index stays
 pub record Emptied (st t : State) : Type 0 where
   pub dom : t .dom ≡ replicate 16 0
-  pub live : t .live ≡ replicate 64 0
+  pub valid : t .valid ≡ replicate 64 0
   pub index : t .index ≡ st .index
   pub nonzero : t .nonzero ≡ replicate 8 0
 

@@ -3,7 +3,7 @@ ghost use mathlib.Core.Path.{_≡_};
 ghost use Prim.Native.Nat.{_+_, _*_, _<_};
 ghost use lib.ListN.{replicate};
 ghost use Rattle.book.specs.Verdicts.{Accepted};
-ghost use Rattle.book.specs.Head.{sheetsOf};
+ghost use Rattle.book.specs.Heads.{sheetsOf};
 ghost use Rattle.engine.specs.Layouts.{ColumnsIn, LayoutOf};
 
 // The columns of sheet s as a mask.
@@ -22,17 +22,17 @@ fn columns_of(book: &[u8], s: usize) -> u32
 }
 
 // Both of each sheet.
-pub fn lay_out(book: &[u8], first: &mut [usize; 8], mask: &mut [u32; 8])
-    requires { ⌜ Accepted (now book) × (now first ≡ replicate 8 0) × (now mask ≡ replicate 8 0) ⌝ }
-    ensures { λ r. ⌜ LayoutOf (now (book .entry)) (now (first .exit)) (now (mask .exit)) ⌝ }
+pub fn lay_out(book: &[u8], begins: &mut [usize; 8], scopes: &mut [u32; 8])
+    requires { ⌜ Accepted (now book) × (now begins ≡ replicate 8 0) × (now scopes ≡ replicate 8 0) ⌝ }
+    ensures { λ r. ⌜ LayoutOf (now (book .entry)) (now (begins .exit)) (now (scopes .exit)) ⌝ }
 {
     let n = book::head::sheets(book);
     let mut at: usize = 512;
     let mut s: usize = 0;
     while s < n {
-        first[s] = at;
-        mask[s] = columns_of(book, s);
-        at = at + 512 * book::rows::blocks_of(book, s);
+        begins[s] = at;
+        scopes[s] = columns_of(book, s);
+        at = at + 512 * book::row::blocks_of(book, s);
         s += 1;
     }
 }

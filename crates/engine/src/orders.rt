@@ -1,22 +1,33 @@
 // One order of 8 bytes: its mask, and whether it is refused.
 use crate::state::*;
 ghost use mathlib.Core.Path.{_≡_};
-ghost use Prim.Native.Nat.{_+_, _<_, _≤_};
+ghost use Prim.Native.Nat.{_<_};
 ghost use lib.ListN.{length};
-ghost use Rattle.model.specs.Orders.{nonzero, mask, outside};
+ghost use Rattle.model.specs.Orders.{backCauses, firstCause, markCauses, mask, narrowCauses, outside, someWrong, wrongPlace, zeroPlaces};
 ghost use Rattle.book.specs.Verdicts.{Accepted};
-ghost use Rattle.book.specs.Head.{columnsOf};
+ghost use Rattle.book.specs.Heads.{columnsOf};
 ghost use Rattle.book.specs.Decoding.{bookOf};
-ghost use Rattle.engine.specs.Holds.{RefusesKind, Refuses};
+ghost use Rattle.engine.specs.Holds.{RefusesAt};
 
-// Whether one of the n bytes from k on is not zero.
-fn some_byte(order: &[u8], k: usize, n: usize) -> bool
-    requires { ⌜ k + n ≤ length (now order) ⌝ }
-    ensures { λ r. ⌜ r ≡ nonzero k n (now (order .entry)) ⌝ }
+// Whether byte i is at one of these places, and isn't zero.
+fn wrong_place(order: &[u8], places: u32, i: usize) -> bool
+    requires { ⌜ (length (now order) ≡ 8) × (i < 8) ⌝ }
+    ensures { λ r. ⌜ r ≡ wrongPlace places (now (order .entry)) i ⌝ }
+{
+    if words::bits::has(places, i as u32) == 0 {
+        return false;
+    }
+    order[i] != 0
+}
+
+// Whether a byte at one of these places isn't zero.
+fn some_wrong(order: &[u8], places: u32) -> bool
+    requires { ⌜ length (now order) ≡ 8 ⌝ }
+    ensures { λ r. ⌜ r ≡ someWrong places (now (order .entry)) ⌝ }
 {
     let mut i: usize = 0;
-    while i < n {
-        if order[k + i] != 0 {
+    while i < 8 {
+        if wrong_place(order, places, i) {
             return true;
         }
         i += 1;
@@ -24,12 +35,31 @@ fn some_byte(order: &[u8], k: usize, n: usize) -> bool
     false
 }
 
-// The mask of an order, the lowest byte first.
+// The places that must be zero in an order of this kind.
+fn zero_places(kind: u8) -> u32
+    ensures { λ r. ⌜ r ≡ zeroPlaces kind ⌝ }
+{
+    if kind == 1 {
+        return 12;
+    }
+    if kind == 2 {
+        return 254;
+    }
+    if kind == 3 {
+        return 252;
+    }
+    if kind == 4 {
+        return 254;
+    }
+    0
+}
+
+// The mask of an order.
 pub fn mask_of(order: &[u8]) -> u32
     requires { ⌜ length (now order) ≡ 8 ⌝ }
     ensures { λ r. ⌜ r ≡ mask (now (order .entry)) ⌝ }
 {
-    book::fields::word_of(order[4], order[5], order[6], order[7])
+    fields::word_at(order, 4)
 }
 
 // Whether m has a value at or above the V of column c.
@@ -40,15 +70,12 @@ fn outside_column(book: &[u8], c: usize, m: u32) -> bool
     m & !places_below(book::head::values(book, c)) != 0
 }
 
-// The refusal of a narrow, or 0.
-fn refused_narrow(book: &[u8], depth: usize, order: &[u8]) -> u32
+// The refusal of a narrow whose bytes are right, or 0.
+fn refused_narrow(book: &[u8], order: &[u8]) -> u32
     requires { ⌜ Accepted (now book) × (length (now order) ≡ 8) ⌝ }
-    ensures { λ r. ⌜ RefusesKind (now (book .entry)) 1 depth (now (order .entry)) r ⌝ }
+    ensures { λ r. ⌜ r ≡ firstCause (narrowCauses (bookOf (now (book .entry))) (now (order .entry))) ⌝ }
 {
-    if some_byte(order, 2, 2) {
-        return 25;
-    }
-    let c = book::fields::wide(order[1]);
+    let c = fields::wide(order[1]);
     if book::head::columns(book) <= c {
         return 21;
     }
@@ -59,13 +86,9 @@ fn refused_narrow(book: &[u8], depth: usize, order: &[u8]) -> u32
 }
 
 // The refusal of a mark at this depth, or 0.
-fn refused_mark(book: &[u8], depth: usize, order: &[u8]) -> u32
-    requires { ⌜ length (now order) ≡ 8 ⌝ }
-    ensures { λ r. ⌜ RefusesKind (now (book .entry)) 2 depth (now (order .entry)) r ⌝ }
+fn refused_mark(depth: usize) -> u32
+    ensures { λ r. ⌜ r ≡ firstCause (markCauses depth) ⌝ }
 {
-    if some_byte(order, 1, 7) {
-        return 25;
-    }
     if depth == 16 {
         return 23;
     }
@@ -73,14 +96,11 @@ fn refused_mark(book: &[u8], depth: usize, order: &[u8]) -> u32
 }
 
 // The refusal of a back at this depth, or 0.
-fn refused_back(book: &[u8], depth: usize, order: &[u8]) -> u32
+fn refused_back(depth: usize, order: &[u8]) -> u32
     requires { ⌜ length (now order) ≡ 8 ⌝ }
-    ensures { λ r. ⌜ RefusesKind (now (book .entry)) 3 depth (now (order .entry)) r ⌝ }
+    ensures { λ r. ⌜ r ≡ firstCause (backCauses depth (now (order .entry))) ⌝ }
 {
-    if some_byte(order, 2, 6) {
-        return 25;
-    }
-    let m = book::fields::wide(order[1]);
+    let m = fields::wide(order[1]);
     if m == 0 {
         return 24;
     }
@@ -90,34 +110,26 @@ fn refused_back(book: &[u8], depth: usize, order: &[u8]) -> u32
     0
 }
 
-// The refusal of a finish, or 0.
-fn refused_finish(book: &[u8], depth: usize, order: &[u8]) -> u32
-    requires { ⌜ length (now order) ≡ 8 ⌝ }
-    ensures { λ r. ⌜ RefusesKind (now (book .entry)) 4 depth (now (order .entry)) r ⌝ }
-{
-    if some_byte(order, 1, 7) {
-        return 25;
-    }
-    0
-}
-
-// The refusal of an order at this depth, or 0 where it is accepted.
+// The refusal of an order, or 0 where it is accepted. Of the session its depth is enough.
 pub fn refusal(book: &[u8], depth: usize, order: &[u8]) -> u32
     requires { ⌜ Accepted (now book) × (length (now order) ≡ 8) ⌝ }
-    ensures { λ r. ⌜ Refuses (now (book .entry)) depth (now (order .entry)) r ⌝ }
+    ensures { λ r. ⌜ RefusesAt (now (book .entry)) depth (now (order .entry)) r ⌝ }
 {
     let kind = order[0];
+    if some_wrong(order, zero_places(kind)) {
+        return 25;
+    }
     if kind == 1 {
-        return refused_narrow(book, depth, order);
+        return refused_narrow(book, order);
     }
     if kind == 2 {
-        return refused_mark(book, depth, order);
+        return refused_mark(depth);
     }
     if kind == 3 {
-        return refused_back(book, depth, order);
+        return refused_back(depth, order);
     }
     if kind == 4 {
-        return refused_finish(book, depth, order);
+        return 0;
     }
     20
 }

@@ -8,21 +8,21 @@ ghost use Rattle.engine.specs.Layouts.{LayoutOf};
 ghost use Rattle.engine.specs.Propagation.{Ready, Propagated, Settled};
 
 // The sheets in `waiting` are looked at, of whose columns those in `column` lost values; at the opening none has been looked at.
-// Whether a store is left: a sheet without valid rows fails it.
+// Whether a store is left: a sheet that cannot be satisfied fails it.
 pub fn propagate(
     book: &[u8],
-    first: &[usize; 8],
-    mask: &[u32; 8],
+    begins: &[usize; 8],
+    scopes: &[u32; 8],
     waiting: u32,
     column: u32,
     opening: bool,
     dom: &mut [u32; 16],
-    live: &mut [u64; 64],
+    valid: &mut [u64; 64],
     index: &mut [u8; 64],
     nonzero: &mut [u8; 8],
 ) -> bool
-    requires { ⌜ Accepted (now book) × LayoutOf (now book) (now first) (now mask) × Ready (now book) opening waiting column (now dom) (now live) (now index) (now nonzero) ⌝ }
-    ensures { λ r. ⌜ Propagated (now (book .entry)) (now (dom .entry)) (now (dom .exit)) (now (live .exit)) (now (index .exit)) (now (nonzero .exit)) r ⌝ }
+    requires { ⌜ Accepted (now book) × LayoutOf (now book) (now begins) (now scopes) × Ready (now book) opening waiting column (now dom) (now valid) (now index) (now nonzero) ⌝ }
+    ensures { λ r. ⌜ Propagated (now (book .entry)) (now (dom .entry)) (now (dom .exit)) (now (valid .exit)) (now (index .exit)) (now (nonzero .exit)) r ⌝ }
 {
     let mut changed = [column; 8];
     let mut left = waiting;
@@ -30,63 +30,69 @@ pub fn propagate(
         let s = first_waiting(left);
         let seen = changed[s];
         changed[s] = 0;
-        let lost = words::strike::revise(
+        let look = words::strike::revise(
             book,
-            first[s],
+            begins[s],
             s,
             seen,
             opening,
             dom,
-            live,
+            valid,
             index,
             nonzero,
         );
-        if nonzero[s] == 0 {
+        if !look.satisfied {
             return false;
         }
-        left = wake(mask, &mut changed, words::bits::others(left), s, lost);
+        left = wake(
+            scopes,
+            &mut changed,
+            words::bits::others(left),
+            s,
+            look.lost,
+        );
     }
     true
 }
 
 // Everything is emptied: no value, no row.
-fn empty(dom: &mut [u32; 16], live: &mut [u64; 64], nonzero: &mut [u8; 8])
-    ensures { λ r. ⌜ (now (dom .exit) ≡ replicate 16 0) × (now (live .exit) ≡ replicate 64 0) × (now (nonzero .exit) ≡ replicate 8 0) ⌝ }
+fn empty(dom: &mut [u32; 16], valid: &mut [u64; 64], nonzero: &mut [u8; 8])
+    ensures { λ r. ⌜ (now (dom .exit) ≡ replicate 16 0) × (now (valid .exit) ≡ replicate 64 0) × (now (nonzero .exit) ≡ replicate 8 0) ⌝ }
 {
     *dom = [0u32; 16];
-    *live = [0u64; 64];
+    *valid = [0u64; 64];
     *nonzero = [0u8; 8];
 }
 
 // The same; a failed store is emptied.
 pub fn settle(
     book: &[u8],
-    first: &[usize; 8],
-    mask: &[u32; 8],
+    begins: &[usize; 8],
+    scopes: &[u32; 8],
     waiting: u32,
     column: u32,
     opening: bool,
     dom: &mut [u32; 16],
-    live: &mut [u64; 64],
+    valid: &mut [u64; 64],
     index: &mut [u8; 64],
     nonzero: &mut [u8; 8],
 )
-    requires { ⌜ Accepted (now book) × LayoutOf (now book) (now first) (now mask) × Ready (now book) opening waiting column (now dom) (now live) (now index) (now nonzero) ⌝ }
-    ensures { λ r. ⌜ Settled (now (book .entry)) (now (dom .entry)) (now (dom .exit)) (now (live .exit)) (now (index .exit)) (now (nonzero .exit)) ⌝ }
+    requires { ⌜ Accepted (now book) × LayoutOf (now book) (now begins) (now scopes) × Ready (now book) opening waiting column (now dom) (now valid) (now index) (now nonzero) ⌝ }
+    ensures { λ r. ⌜ Settled (now (book .entry)) (now (dom .entry)) (now (dom .exit)) (now (valid .exit)) (now (index .exit)) (now (nonzero .exit)) ⌝ }
 {
     if propagate(
         book,
-        first,
-        mask,
+        begins,
+        scopes,
         waiting,
         column,
         opening,
         dom,
-        live,
+        valid,
         index,
         nonzero,
     ) {
         return;
     }
-    empty(dom, live, nonzero);
+    empty(dom, valid, nonzero);
 }

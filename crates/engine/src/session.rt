@@ -10,7 +10,7 @@ use crate::state::*;
 ghost use mathlib.Core.List.{[]};
 ghost use Prim.Native.Nat.{_+_, _<_, _≤_};
 ghost use Rattle.book.specs.Verdicts.{Accepted};
-ghost use Rattle.book.specs.Head.{columnsOf};
+ghost use Rattle.book.specs.Heads.{columnsOf};
 ghost use Rattle.engine.specs.Layouts.{LayoutOf};
 ghost use Rattle.engine.specs.Holds.{Holds, SomeSession, NarrowHolds, MarkHolds, BackHolds};
 
@@ -24,18 +24,18 @@ pub struct Session {
 fn blank() -> State {
     State {
         dom: [0u32; 16],
-        live: [0u64; 64],
+        valid: [0u64; 64],
         index: [0u8; 64],
         nonzero: [0u8; 8],
     }
 }
 
 // The session of the empty trail.
-pub fn open(book: &[u8], first: &[usize; 8], mask: &[u32; 8]) -> Session
-    requires { ⌜ Accepted (now book) × LayoutOf (now book) (now first) (now mask) ⌝ }
+pub fn open(book: &[u8], begins: &[usize; 8], scopes: &[u32; 8]) -> Session
+    requires { ⌜ Accepted (now book) × LayoutOf (now book) (now begins) (now scopes) ⌝ }
     ensures { λ r. ⌜ Holds (now (book .entry)) [] r ⌝ }
 {
-    let st = opening(book, first, mask);
+    let st = opening(book, begins, scopes);
     let none = blank();
     Session {
         now: st,
@@ -49,16 +49,16 @@ impl Session {
     pub fn narrow(
         mut self,
         book: &[u8],
-        first: &[usize; 8],
-        mask: &[u32; 8],
+        begins: &[usize; 8],
+        scopes: &[u32; 8],
         c: usize,
         m: u32,
     ) -> Session
-        requires { ⌜ Accepted (now book) × LayoutOf (now book) (now first) (now mask) × (c < columnsOf (now book)) × SomeSession (now book) self ⌝ }
+        requires { ⌜ Accepted (now book) × LayoutOf (now book) (now begins) (now scopes) × (c < columnsOf (now book)) × SomeSession (now book) self ⌝ }
         ensures { λ r. ⌜ NarrowHolds (now (book .entry)) c m self r ⌝ }
     {
         let st = self.now;
-        let t = st.narrowed(book, first, mask, c, m);
+        let t = st.narrowed(book, begins, scopes, c, m);
         self.now = t;
         self
     }

@@ -1,14 +1,14 @@
 // A state: the domains, and for each sheet its valid rows in words, with their index.
 //
 //     dom      | column 0: values left, bit v for value v | column 1 | .. | column 15 |            0 from the book's last column on
-//     live     | sheet 0: 8 words, bit r mod 64 of word r div 64 is row r | sheet 1: 8 words | ..
+//     valid    | sheet 0: 8 words, bit r mod 64 of word r div 64 is row r | sheet 1: 8 words | ..
 //     index    | sheet 0: 8 word numbers, a permutation | sheet 1 | ..
 //     nonzero  | sheet 0: how many of its words are not zero, one more than document 01's limit | sheet 1 | ..
 //
 // Always: the domains are the closure of what the trail allows; a row is set exactly when it is valid in them; position i of a sheet's index
 // is below `nonzero` exactly when the word that it names is not zero. In a failed state all domains and words are zero.
 //
-// Arguments `first` and `mask` are the book's layout (layout.rt): the byte where each sheet's rows begin, and each sheet's columns as a mask.
+// Arguments `begins` and `scopes` are the book's layout (layout.rt): the byte where each sheet's rows begin, and each sheet's columns as a mask.
 use crate::propagate::*;
 use crate::worklist::*;
 ghost use mathlib.Core.Path.{_≡_};
@@ -17,14 +17,14 @@ ghost use Prim.Native.Nat.{_+_, _*_, _<_, _≤_};
 ghost use lib.Bits.{bitAnd};
 ghost use lib.ListN.{getD, replicate};
 ghost use Rattle.book.specs.Verdicts.{Accepted};
-ghost use Rattle.book.specs.Head.{columnsOf, sheetsOf};
+ghost use Rattle.book.specs.Heads.{columnsOf, sheetsOf};
 ghost use Rattle.engine.specs.Layouts.{LayoutOf};
 ghost use Rattle.engine.specs.Openings.{placesBelow, FullDomains, FullWord, SixtyFour, FullWords, FullRows, FullIndex};
 ghost use Rattle.engine.specs.Sessions.{StateIs, SomeState, Emptied, Narrows};
 
 pub struct State {
     pub dom: [u32; 16],
-    pub live: [u64; 64],
+    pub valid: [u64; 64],
     pub index: [u8; 64],
     pub nonzero: [u8; 8],
 }
@@ -72,27 +72,27 @@ fn full_word(n: usize, w: usize) -> u64
 }
 
 // The words of sheet s, which has n rows.
-fn fill_words(live: &mut [u64; 64], s: usize, n: usize)
-    requires { ⌜ (s < 8) × (n ≤ 512) × SixtyFour (now live) ⌝ }
-    ensures { λ r. ⌜ FullWords (now (live .entry)) s n 8 (now (live .exit)) ⌝ }
+fn fill_words(valid: &mut [u64; 64], s: usize, n: usize)
+    requires { ⌜ (s < 8) × (n ≤ 512) × SixtyFour (now valid) ⌝ }
+    ensures { λ r. ⌜ FullWords (now (valid .entry)) s n 8 (now (valid .exit)) ⌝ }
 {
     let mut w: usize = 0;
     while w < 8 {
-        live[8 * s + w] = full_word(n, w);
+        valid[8 * s + w] = full_word(n, w);
         w += 1;
     }
 }
 
 // The words of every sheet.
-fn fill_rows(book: &[u8], live: &mut [u64; 64], nonzero: &mut [u8; 8])
-    requires { ⌜ Accepted (now book) × (now live ≡ replicate 64 0) × (now nonzero ≡ replicate 8 0) ⌝ }
-    ensures { λ r. ⌜ FullRows (now (book .entry)) (sheetsOf (now (book .entry))) (now (live .exit)) (now (nonzero .exit)) ⌝ }
+fn fill_rows(book: &[u8], valid: &mut [u64; 64], nonzero: &mut [u8; 8])
+    requires { ⌜ Accepted (now book) × (now valid ≡ replicate 64 0) × (now nonzero ≡ replicate 8 0) ⌝ }
+    ensures { λ r. ⌜ FullRows (now (book .entry)) (sheetsOf (now (book .entry))) (now (valid .exit)) (now (nonzero .exit)) ⌝ }
 {
     let n = book::head::sheets(book);
     let mut s: usize = 0;
     while s < n {
         let rows = book::head::rows(book, s);
-        fill_words(live, s, rows);
+        fill_words(valid, s, rows);
         nonzero[s] = ((rows + 63) / 64) as u8;
         s += 1;
     }
@@ -111,33 +111,33 @@ fn fill_index(index: &mut [u8; 64])
 }
 
 // The state of the empty trail.
-pub fn opening(book: &[u8], first: &[usize; 8], mask: &[u32; 8]) -> State
-    requires { ⌜ Accepted (now book) × LayoutOf (now book) (now first) (now mask) ⌝ }
+pub fn opening(book: &[u8], begins: &[usize; 8], scopes: &[u32; 8]) -> State
+    requires { ⌜ Accepted (now book) × LayoutOf (now book) (now begins) (now scopes) ⌝ }
     ensures { λ r. ⌜ StateIs (now (book .entry)) [] r ⌝ }
 {
     let mut dom = [0u32; 16];
-    let mut live = [0u64; 64];
+    let mut valid = [0u64; 64];
     let mut index = [0u8; 64];
     let mut nonzero = [0u8; 8];
     fill_domains(book, &mut dom);
-    fill_rows(book, &mut live, &mut nonzero);
+    fill_rows(book, &mut valid, &mut nonzero);
     fill_index(&mut index);
     let waiting = places_below(book::head::sheets(book));
     settle(
         book,
-        first,
-        mask,
+        begins,
+        scopes,
         waiting,
         0,
         true,
         &mut dom,
-        &mut live,
+        &mut valid,
         &mut index,
         &mut nonzero,
     );
     State {
         dom: dom,
-        live: live,
+        valid: valid,
         index: index,
         nonzero: nonzero,
     }
@@ -151,39 +151,46 @@ impl State {
         let index = self.index;
         State {
             dom: [0u32; 16],
-            live: [0u64; 64],
+            valid: [0u64; 64],
             index: index,
             nonzero: [0u8; 8],
         }
     }
 
     // The state after column c is cut to the values in m, of which it has some.
-    fn propagated(self, book: &[u8], first: &[usize; 8], mask: &[u32; 8], c: usize, m: u32) -> State
-        requires { ⌜ Accepted (now book) × LayoutOf (now book) (now first) (now mask) × (c < columnsOf (now book)) × SomeState (now book) self × (0 < bitAnd (getD (self .dom) c 0) m) ⌝ }
+    fn propagated(
+        self,
+        book: &[u8],
+        begins: &[usize; 8],
+        scopes: &[u32; 8],
+        c: usize,
+        m: u32,
+    ) -> State
+        requires { ⌜ Accepted (now book) × LayoutOf (now book) (now begins) (now scopes) × (c < columnsOf (now book)) × SomeState (now book) self × (0 < bitAnd (getD (self .dom) c 0) m) ⌝ }
         ensures { λ r. ⌜ Narrows (now (book .entry)) c m self r ⌝ }
     {
         let mut dom = self.dom;
         let d = dom[c];
         dom[c] = d & m;
-        let mut live = self.live;
+        let mut valid = self.valid;
         let mut index = self.index;
         let mut nonzero = self.nonzero;
         let column = 1u32 << c;
         settle(
             book,
-            first,
-            mask,
-            waiting_for(mask, column),
+            begins,
+            scopes,
+            waiting_for(scopes, column),
             column,
             false,
             &mut dom,
-            &mut live,
+            &mut valid,
             &mut index,
             &mut nonzero,
         );
         State {
             dom: dom,
-            live: live,
+            valid: valid,
             index: index,
             nonzero: nonzero,
         }
@@ -193,12 +200,12 @@ impl State {
     pub fn narrowed(
         self,
         book: &[u8],
-        first: &[usize; 8],
-        mask: &[u32; 8],
+        begins: &[usize; 8],
+        scopes: &[u32; 8],
         c: usize,
         m: u32,
     ) -> State
-        requires { ⌜ Accepted (now book) × LayoutOf (now book) (now first) (now mask) × (c < columnsOf (now book)) × SomeState (now book) self ⌝ }
+        requires { ⌜ Accepted (now book) × LayoutOf (now book) (now begins) (now scopes) × (c < columnsOf (now book)) × SomeState (now book) self ⌝ }
         ensures { λ r. ⌜ Narrows (now (book .entry)) c m self r ⌝ }
     {
         let dom = self.dom;
@@ -210,6 +217,6 @@ impl State {
         if e == 0 {
             return self.failed();
         }
-        self.propagated(book, first, mask, c, m)
+        self.propagated(book, begins, scopes, c, m)
     }
 }

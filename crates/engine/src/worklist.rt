@@ -30,13 +30,13 @@ fn waits(columns: u32, lost: u32, f: usize) -> u32
 }
 
 // The sheets with a column in `lost`.
-pub fn waiting_for(mask: &[u32; 8], lost: u32) -> u32
-    ensures { λ r. ⌜ WaitingFor (now (mask .entry)) lost 8 r ⌝ }
+pub fn waiting_for(scopes: &[u32; 8], lost: u32) -> u32
+    ensures { λ r. ⌜ WaitingFor (now (scopes .entry)) lost 8 r ⌝ }
 {
     let mut out: u32 = 0;
     let mut f: usize = 0;
     while f < 8 {
-        out = out | waits(mask[f], lost, f);
+        out = out | waits(scopes[f], lost, f);
         f += 1;
     }
     out
@@ -55,14 +55,14 @@ fn add_lost(changed: &mut [u32; 8], lost: u32)
 }
 
 // Sheet s struck the columns in `lost`: every other sheet with such a column waits. The sheets that wait.
-pub fn wake(mask: &[u32; 8], changed: &mut [u32; 8], waiting: u32, s: usize, lost: u32) -> u32
+pub fn wake(scopes: &[u32; 8], changed: &mut [u32; 8], waiting: u32, s: usize, lost: u32) -> u32
     requires { ⌜ (waiting < 256) × (s < 8) × (length (now changed) ≡ 8) × (getD (now changed) s 0 ≡ 0) ⌝ }
-    ensures { λ r. ⌜ Woken (now (mask .entry)) s lost (now (changed .entry)) waiting (now (changed .exit)) r ⌝ }
+    ensures { λ r. ⌜ Woken (now (scopes .entry)) s lost (now (changed .entry)) waiting (now (changed .exit)) r ⌝ }
 {
     if lost == 0 {
         return waiting;
     }
     add_lost(changed, lost);
     changed[s] = 0;
-    waiting | (waiting_for(mask, lost) & !(1u32 << s))
+    waiting | (waiting_for(scopes, lost) & !(1u32 << s))
 }

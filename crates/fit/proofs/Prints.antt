@@ -6,14 +6,14 @@ use Prim.Native.Nat.{ℕ, _/_, _≤_, _<_}
 use lib.ListN.{length, List·getD-eq-default}
 use borrow.Author.Tests.{lt-ltb, le-ltb}
 use Rattle.model.proofs.Tests.{below}
-use Rattle.book.specs.Head.{columnsOf}
-use Rattle.book.proofs.Decoded.{accepted-right}
-use Rattle.book.proofs.Right.{columns-range}
+use Rattle.book.specs.Heads.{columnsOf}
+use Rattle.book.proofs.Decoding.{accepted-right}
+use Rattle.book.proofs.Heads.{columns-range}
 use Rattle.fit.specs.Prints.{columnsShown, runText}
 use Rattle.lines.specs.Texts.{printed}
 use Rattle.lines.proofs.Writing.{printed-refused}
 use Rattle.runs.specs.Results.{runResult, runSpace}
-use Rattle.runs.proofs.Promises.{anyRuns, right-input}
+use Rattle.runs.proofs.Results.{accepted-number, right-input}
 
 -- a book too short to say
 pub shown-short : (b : List ℕ) → length b ≤ 4 → 0 ≡ columnsShown b
@@ -38,7 +38,7 @@ shown-printed b o space = go (below (runResult b o (length space)) 65536)
     go : (runResult b o (length space) < 65536) ⊎ (65536 ≤ runResult b o (length space))
         → printed (runResult b o (length space)) (columnsShown b) (length o / 8) (runSpace b o space) ≡ runText b o space
     go (inl p) =
-        let accepted = right-input b o (length space) (anyRuns b o space .accepted-run .0 p) .book in
+        let accepted = right-input b o (length space) (accepted-number b o (length space) p) .book in
         let e : columnsOf b ≡ columnsShown b = shown-all b (columnsOf b) refl (columns-range b (accepted-right b accepted .head) .1) in
         rw (← e)
     go (inr p) = sym (printed-refused _ (columnsShown b) (length o / 8) (runSpace b o space) p) ∙ printed-refused _ (columnsOf b) (length o / 8) (runSpace b o space) p

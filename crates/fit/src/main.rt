@@ -2,7 +2,7 @@
 //
 // Promise: `put_run` puts `runText` (specs/Prints.antt) of the bytes read, for any book and orders. The rest reads and writes by the kit's libraries,
 // whose C functions' contracts are assumed.
-use book::fields::wide;
+use fields::wide;
 use libc::STDOUT_FILENO;
 ghost use mathlib.Core.Path.{_≡_};
 ghost use Prim.Native.Nat.{_≤_};

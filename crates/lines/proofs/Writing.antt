@@ -7,7 +7,7 @@ use native.Mathlib.Omega.{arith}
 use lib.ListN.{length, take, set, getD, length-append, length-set}
 use lib.Seq.{take-suc, take-length, take-suc-set}
 use borrow.Author.Tests.{lt-ltb, le-ltb}
-use Rattle.book.specs.Fields.{wordAt}
+use Rattle.model.specs.Answers.{domainIn}
 use Rattle.model.specs.Answers.{answerAt}
 use Rattle.lines.specs.Texts.{field, domainFields, answerLine, answerLines, acceptedLine, refusedLine, printed}
 use Rattle.lines.specs.Written.{Written}
@@ -65,7 +65,7 @@ written-all text i e w = rw (e, take-length) at w
 
 -- ---- the parts of a run's text
 -- one domain more
-pub written-domain : (answer : List ℕ) (i x : ℕ) {a b c : List ℕ} {p q r : ℕ} → x ≡ wordAt answer (8 + 4 * i)
+pub written-domain : (answer : List ℕ) (i x : ℕ) {a b c : List ℕ} {p q r : ℕ} → x ≡ domainIn answer i
     → Written (11 * i) a b p q (domainFields answer i) → Written 11 b c q r (field x) → Written (11 * (i + 1)) a c p r (domainFields answer (i + 1))
 unfolding domainFields
 written-domain answer i x e v w =

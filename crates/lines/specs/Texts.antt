@@ -6,8 +6,8 @@ use Prim.Native.Nat.{ℕ, zero, suc, _+_, _*_, _/_, _%_}
 use Prim.Native.String.{String}
 use Prim.Native.String.{[] as empty, _∷_ as _then_}
 use lib.Dec.{ltb}
-use Rattle.model.specs.Answers.{answerAt}
-use Rattle.book.specs.Fields.{byteAt, wordAt}
+use Rattle.model.specs.Answers.{answerAt, domainIn}
+use Rattle.fields.specs.Bytes.{byteAt}
 
 -- the bytes of letters, digits, spaces and newlines
 abbrev pub ascii : String → List ℕ
@@ -33,10 +33,10 @@ abbrev pub newline : List ℕ
 newline = ascii "\n"
 
 -- ---- a line
--- "the C domains": four bytes each from byte 8 on, the lowest first
+-- "the C domains"
 unfoldable pub domainFields : List ℕ → ℕ → List ℕ
 domainFields a zero = []
-domainFields a (suc c) = domainFields a c ++ field (wordAt a (8 + 4 * c))
+domainFields a (suc c) = domainFields a c ++ field (domainIn a c)
 
 -- of answer i, whose bytes are a: "answer number, refusal, status, depth, done, byte 3"
 --

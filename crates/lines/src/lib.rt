@@ -5,12 +5,12 @@
 // line of a refused run.
 //
 // Each function takes the buffer and a place `at` in it, puts its text there and returns the place behind it.
-use book::fields::word_of;
+use fields::word_at;
 ghost use mathlib.Core.Path.{_≡_};
 ghost use mathlib.Core.List.{[], _∷_};
 ghost use Prim.Native.Nat.{_+_, _*_, _<_, _≤_};
 ghost use lib.ListN.{length, take};
-ghost use Rattle.book.specs.Fields.{wordAt};
+ghost use Rattle.model.specs.Answers.{domainIn};
 ghost use Rattle.lines.specs.Texts.{number as Texts·number, field, domainFields, answerHead, answerLine, answerLines, acceptedLine, refusedLine, printed};
 ghost use Rattle.lines.specs.Written.{Written};
 
@@ -71,10 +71,9 @@ fn put_word_field(out: &mut [u8], at: usize, x: u32) -> usize
 // Domain c of an answer.
 fn domain(answer: &[u8], c: usize) -> u32
     requires { ⌜ (c < 16) × (length (now answer) ≡ 72) ⌝ }
-    ensures { λ r. ⌜ r ≡ wordAt (now (answer .entry)) (8 + 4 * c) ⌝ }
+    ensures { λ r. ⌜ r ≡ domainIn (now (answer .entry)) c ⌝ }
 {
-    let i = 8 + 4 * c;
-    word_of(answer[i], answer[i + 1], answer[i + 2], answer[i + 3])
+    word_at(answer, 8 + 4 * c)
 }
 
 fn put_domains(out: &mut [u8], at: usize, answer: &[u8], columns: usize) -> usize

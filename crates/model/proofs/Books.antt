@@ -1,6 +1,6 @@
 -- Laws of books: the support test says what document 01 says, so a value stays exactly when a consistent store within holds it.
 -- But for `allows-e`, `allows-i` and what cites them, none of them looks into `allows`. Assumes nothing.
-use mathlib.Core.Path.{_≡_, refl, sym, ap, _∙_, subst}
+use mathlib.Core.Path.{_≡_, refl, sym, ap, ap₂, _∙_, subst}
 use mathlib.Core.Bool.{true, false, not, _&&_, _||_, false≢true, true≢false}
 use mathlib.Core.Logic.{_⊎_, inl, inr, _↔_}
 use mathlib.Core.List.{List, [], _∷_, List·Memᴰ, Memᴰ·cast, List·Memᴰ·not-nil}
@@ -10,18 +10,19 @@ use native.Mathlib.Omega.{arith}
 use lib.Dec.{eqb}
 use lib.ListN.{length, getD}
 use borrow.Author.Tests.{eqb-true, eq-eqb, not-true}
-use Rattle.model.specs.Tests.{anyIn, eqList}
+use Rattle.model.specs.Tests.{anyIn}
 use Rattle.model.specs.Stores.{has, Within, IsStore, storeOf, emptyStore}
 use Rattle.model.specs.Closure.{Monotone, Consistent, closureOf}
 use Rattle.model.specs.Choices.{pick, anyChoice}
-use Rattle.model.specs.Books.{Sheet, Book, columnCount, allows, WellFormedSheet, WellFormed, Support, ConsistentStore, Stays, Fails, carries, supportedIn, supported, closure}
-use Rattle.model.proofs.Tests.{and-l, and-r, and-i, or-e, or-l, or-r, either, allIn-mono, allIn-e, allIn-i, anyIn-e, anyIn-i, eqList-e, eqList-refl, below}
+use Rattle.model.specs.Books.{Sheet, Book, columnCount, matches, rowMatches, allows, WellFormedSheet, WellFormed, Support, ConsistentStore, Stays, Fails, carries, supportedIn, supported, closure}
+use Rattle.model.proofs.Tests.{and-l, and-r, and-i, or-e, or-l, or-r, either, allIn-mono, allIn-e, allIn-i, anyIn-e, anyIn-i, below}
+use Rattle.model.proofs.Masks.{bit-pow, bit-pow-only}
 use Rattle.model.proofs.Stores.{has-i, has-e, is-store, in-store, within-trans}
 use Rattle.model.proofs.Closure.{closure-iff, consistent-or-empty, failed-iff, between-self, between-rest}
 use Rattle.model.proofs.Choices.{anyChoice-e, anyChoice-i, anyChoice-mono, length-pick, pick-within, pick-small, takes-mono}
 
 -- ---- the support test is monotone
-supportedIn-mono : (B A : List ℕ) → Within B A → (c v : ℕ) (s : Sheet) → supportedIn B c v s ≡ true → supportedIn A c v s ≡ true
+pub supportedIn-mono : (B A : List ℕ) → Within B A → (c v : ℕ) (s : Sheet) → supportedIn B c v s ≡ true → supportedIn A c v s ≡ true
 unfolding supportedIn
 supportedIn-mono B A w c v s e = go (or-e (not (anyIn (s .columns) (eqb c))) _ e)
   where
@@ -31,6 +32,12 @@ supportedIn-mono B A w c v s e = go (or-e (not (anyIn (s .columns) (eqb c))) _ e
     go (inr q) =
         or-r (not (anyIn (s .columns) (eqb c))) _
         (anyChoice-mono (pick B (s .columns)) (pick A (s .columns)) (length-pick B (s .columns) ∙ sym (length-pick A (s .columns))) (pick-within B A (s .columns) w) _ q)
+
+-- it goes by the sheet's own columns
+pub supportedIn-same : (B A : List ℕ) (s : Sheet) → pick B (s .columns) ≡ pick A (s .columns) → (c v : ℕ) → supportedIn B c v s ≡ supportedIn A c v s
+unfolding supportedIn
+supportedIn-same B A s e c v =
+    ap (λ (P : List ℕ). not (anyIn (s .columns) (eqb c)) || anyChoice P (λ t. allows s t && carries (s .columns) t c v)) e
 
 pub supported-mono : (b : Book) → Monotone (columnCount b) (supported b)
 unfolding supported
@@ -241,13 +248,35 @@ module _ (b : Book) (p : WellFormed b) (A : List ℕ) (a : IsStore (columnCount 
       go (inr e) = inr e
 
 -- ---- what is allowed is a row, and a row is allowed
+-- a cell matches its own value and no other
+pub matches-e : (x v : ℕ) → matches x v ≡ true → x ≡ v
+matches-e x v e = bit-pow-only v x e
+
+pub matches-i : (v : ℕ) → matches v v ≡ true
+matches-i v = bit-pow v
+
+row-matches-e : (r t : List ℕ) → rowMatches r t ≡ true → r ≡ t
+unfolding rowMatches
+row-matches-e [] [] e = refl
+row-matches-e [] (v ∷ t) e = absurd (false≢true e)
+row-matches-e (x ∷ r) [] e = absurd (false≢true e)
+row-matches-e (x ∷ r) (v ∷ t) e =
+    let p = matches-e x v (and-l (matches x v) _ e) in
+    let q = row-matches-e r t (and-r (matches x v) _ e) in
+    ap₂ (λ (y : ℕ) (l : List ℕ). y ∷ l) p q
+
+row-matches-i : (t : List ℕ) → rowMatches t t ≡ true
+unfolding rowMatches
+row-matches-i [] = refl
+row-matches-i (v ∷ t) = and-i (matches-i v) (row-matches-i t)
+
 pub allows-e : (s : Sheet) (t : List ℕ) → allows s t ≡ true → List·Memᴰ t (s .rows)
 unfolding allows
-allows-e s t e = let r = anyIn-e (s .rows) (eqList t) e in Memᴰ·cast (eqList-e t (r .0) (r .2)) (r .1)
+allows-e s t e = let r = anyIn-e (s .rows) (λ r. rowMatches r t) e in Memᴰ·cast (sym (row-matches-e (r .0) t (r .2))) (r .1)
 
 pub allows-i : (s : Sheet) (t : List ℕ) → List·Memᴰ t (s .rows) → allows s t ≡ true
 unfolding allows
-allows-i s t m = anyIn-i (s .rows) (eqList t) t m (eqList-refl t)
+allows-i s t m = anyIn-i (s .rows) (λ r. rowMatches r t) t m (row-matches-i t)
 
 -- a book with a sheet without rows fails, whatever is allowed: K8 for every such book
 pub no-rows-fail : (b : Book) → WellFormed b → (s : Sheet) → List·Memᴰ s (b .sheets) → s .rows ≡ []

@@ -1,5 +1,5 @@
 -- Laws of choices: the first that passes is the least, and none is found exactly when none passes. Assumes nothing.
-use mathlib.Core.Path.{_≡_, refl, sym, ap, _∙_, subst, subst⁻¹}
+use mathlib.Core.Path.{_≡_, refl, sym, ap, ap₂, _∙_, subst, subst⁻¹}
 use mathlib.Core.Bool.{Bool, true, false, false≢true}
 use mathlib.Core.Logic.{_⊎_, inl, inr, _↔_}
 use mathlib.Core.Option.{Option, none, some}
@@ -10,7 +10,7 @@ use native.Mathlib.Omega.{arith}
 use lib.ListN.{length, getD, length-map, List·getD-eq-default}
 use Rattle.model.specs.Masks.{bit}
 use Rattle.model.specs.Stores.{has, Within}
-use Rattle.model.specs.Choices.{pick, Takes, Lower, First, firstOf, lead, first, anyChoice}
+use Rattle.model.specs.Choices.{pick, Takes, Lower, First, firstOf, lead, firstChoice, anyChoice}
 use Rattle.model.proofs.Tests.{either, anyBelow-e, anyBelow-i, below}
 use Rattle.model.proofs.Masks.{bit-of-zero, bit-below}
 
@@ -98,15 +98,15 @@ firstOf-same (suc n) f g h = go (opt (f 0)) (firstOf-same n (λ v. f (suc v)) (�
 
 -- one column's step
 abbrev step : ℕ → List ℕ → (List ℕ → Bool) → ℕ → Option (List ℕ)
-unfolding first
-step m B p v = elim (bit v m) [ true ↦ lead v (first B (λ x. p (v ∷ x))) | false ↦ none ]
+unfolding firstChoice
+step m B p v = elim (bit v m) [ true ↦ lead v (firstChoice B (λ x. p (v ∷ x))) | false ↦ none ]
 
-step-yes : (m : ℕ) (B : List ℕ) (p : List ℕ → Bool) (v : ℕ) → bit v m ≡ true → step m B p v ≡ lead v (first B (λ x. p (v ∷ x)))
-unfolding first
+step-yes : (m : ℕ) (B : List ℕ) (p : List ℕ → Bool) (v : ℕ) → bit v m ≡ true → step m B p v ≡ lead v (firstChoice B (λ x. p (v ∷ x)))
+unfolding firstChoice
 step-yes m B p v e = rw (e, step)
 
 step-no : (m : ℕ) (B : List ℕ) (p : List ℕ → Bool) (v : ℕ) → bit v m ≡ false → step m B p v ≡ none
-unfolding first
+unfolding firstChoice
 step-no m B p v e = rw (e, step)
 
 lead-none : (v : ℕ) (o : Option (List ℕ)) → lead v o ≡ none → o ≡ none
@@ -139,9 +139,9 @@ abbrev pub Small : List ℕ → Type 0
 Small B = (c : ℕ) → getD B c 0 < 2 ^ 32
 
 -- nothing passes where none is found
-first-never : (B : List ℕ) → Small B → (p : List ℕ → Bool) → first B p ≡ none → (y : List ℕ) → Takes B y → p y ≡ true → ⊥
-unfolding first
-first-never [] h p e [] t q = let k : first [] p ≡ some [] = rw q in never e k
+first-never : (B : List ℕ) → Small B → (p : List ℕ → Bool) → firstChoice B p ≡ none → (y : List ℕ) → Takes B y → p y ≡ true → ⊥
+unfolding firstChoice
+first-never [] h p e [] t q = let k : firstChoice [] p ≡ some [] = rw q in never e k
 first-never [] h p e (v ∷ y) t q = omega (arith, t .size)
 first-never (m ∷ B) h p e [] t q = omega (arith, t .size)
 first-never (m ∷ B) h p e (v ∷ y) t q =
@@ -166,7 +166,7 @@ first-nil p q = record { takes = record { size = refl; each = λ c l. absurd (no
 -- v is the first value of column 0 with a choice for the rest, and x is the first of those
 first-cons : (m : ℕ) (B : List ℕ) → Small (m ∷ B) → (p : List ℕ → Bool) (v : ℕ) (x : List ℕ)
     → bit v m ≡ true → First B (λ x. p (v ∷ x)) x → ((u : ℕ) → u < v → step m B p u ≡ none) → First (m ∷ B) p (v ∷ x)
-unfolding first
+unfolding firstChoice
 first-cons m B h p v x e f before = record { takes = takes-cons e (f .takes); passes = f .passes; least = at }
   where
     same : (u : ℕ) (y : List ℕ) → v ≡ u → (x ≡ y) ⊎ Lower x y → (v ∷ x ≡ u ∷ y) ⊎ Lower (v ∷ x) (u ∷ y)
@@ -187,16 +187,16 @@ first-cons m B h p v x e f before = record { takes = takes-cons e (f .takes); pa
     at [] t r = absurd (omega (arith, t .size))
     at (u ∷ y) t r = go u y t r (below u v) (below v u)
 
-first-found : (B : List ℕ) → Small B → (p : List ℕ → Bool) (x : List ℕ) → first B p ≡ some x → First B p x
-unfolding first
+first-found : (B : List ℕ) → Small B → (p : List ℕ → Bool) (x : List ℕ) → firstChoice B p ≡ some x → First B p x
+unfolding firstChoice
 first-found [] h p x e = go (either (p []))
   where
     go : (p [] ≡ true) ⊎ (p [] ≡ false) → First [] p x
-    go (inr q) = let k : first [] p ≡ none = rw q in absurd (never k e)
-    go (inl q) = let k : first [] p ≡ some [] = rw q in let z : [] ≡ x = cc in subst (First [] p) z (first-nil p q)
+    go (inr q) = let k : firstChoice [] p ≡ none = rw q in absurd (never k e)
+    go (inl q) = let k : firstChoice [] p ≡ some [] = rw q in let z : [] ≡ x = cc in subst (First [] p) z (first-nil p q)
 first-found (m ∷ B) h p x e = go (firstOf-some 32 (step m B p) x e) (λ q y r. first-found B (λ c. h (suc c)) q y r)
   where
-    go : FirstOf 32 (step m B p) x → ((q : List ℕ → Bool) (y : List ℕ) → first B q ≡ some y → First B q y) → First (m ∷ B) p x
+    go : FirstOf 32 (step m B p) x → ((q : List ℕ → Bool) (y : List ℕ) → firstChoice B q ≡ some y → First B q y) → First (m ∷ B) p x
     go f ih = bits (either (bit (f .value) m))
       where
         bits : (bit (f .value) m ≡ true) ⊎ (bit (f .value) m ≡ false) → First (m ∷ B) p x
@@ -228,18 +228,18 @@ first-unique B p x y f g = go (f .least y (g .takes) (g .passes)) (g .least x (f
 
 module _ (B : List ℕ) (h : Small B) (p : List ℕ → Bool) where
   -- found: the first choice that passes
-  pub first-some-iff : (x : List ℕ) → (first B p ≡ some x) ↔ First B p x
-  first-some-iff x = (first-found B h p x, from (opt (first B p)))
+  pub first-some-iff : (x : List ℕ) → (firstChoice B p ≡ some x) ↔ First B p x
+  first-some-iff x = (first-found B h p x, from (opt (firstChoice B p)))
     where
-      from : (first B p ≡ none) ⊎ ((y : List ℕ) × (first B p ≡ some y)) → First B p x → first B p ≡ some x
+      from : (firstChoice B p ≡ none) ⊎ ((y : List ℕ) × (firstChoice B p ≡ some y)) → First B p x → firstChoice B p ≡ some x
       from (inl e) f = absurd (first-never B h p e x (f .takes) (f .passes))
       from (inr q) f = q .1 ∙ ap {B = Option (List ℕ)} some (first-unique B p (q .0) x (first-found B h p (q .0) (q .1)) f)
 
   -- none exactly when there is none
-  pub first-none-iff : (first B p ≡ none) ↔ ((x : List ℕ) → Takes B x → p x ≡ true → ⊥)
-  first-none-iff = (first-never B h p, from (opt (first B p)))
+  pub first-none-iff : (firstChoice B p ≡ none) ↔ ((x : List ℕ) → Takes B x → p x ≡ true → ⊥)
+  first-none-iff = (first-never B h p, from (opt (firstChoice B p)))
     where
-      from : (first B p ≡ none) ⊎ ((y : List ℕ) × (first B p ≡ some y)) → ((x : List ℕ) → Takes B x → p x ≡ true → ⊥) → first B p ≡ none
+      from : (firstChoice B p ≡ none) ⊎ ((y : List ℕ) × (firstChoice B p ≡ some y)) → ((x : List ℕ) → Takes B x → p x ≡ true → ⊥) → firstChoice B p ≡ none
       from (inl e) n = e
       from (inr q) n = let f = first-found B h p (q .0) (q .1) in absurd (n (q .0) (f .takes) (f .passes))
 
@@ -292,6 +292,11 @@ pub getD-pick : (x cs : List ℕ) (i : ℕ) → i < length cs → getD (pick x c
 getD-pick x [] i l = absurd (not-suc-le-zero l)
 getD-pick x (c ∷ cs) zero l = refl
 getD-pick x (c ∷ cs) (suc i) l = getD-pick x cs i (le-of-suc-le-suc l)
+
+pub pick-same : (B A cs : List ℕ) → ((i : ℕ) → i < length cs → getD B (getD cs i 0) 0 ≡ getD A (getD cs i 0) 0) → pick B cs ≡ pick A cs
+pick-same B A [] h = refl
+pick-same B A (c ∷ cs) h =
+    ap₂ (λ (x : ℕ) (l : List ℕ). x ∷ l) (h 0 (zero-lt-suc (length cs))) (pick-same B A cs (λ i l. h (suc i) (omega arith)))
 
 pub length-pick : (x cs : List ℕ) → length (pick x cs) ≡ length cs
 length-pick x cs = length-map cs (λ c. getD x c 0)

@@ -2,23 +2,23 @@
 use mathlib.Core.Path.{_≡_, refl, sym, ap, ap₂, _∙_, subst}
 use mathlib.Core.Bool.{Bool, true, false, not, _&&_, _||_, false≢true, true≢false}
 use mathlib.Core.Logic.{_⊎_, inl, inr, _↔_}
-use mathlib.Core.Option.{none, some}
+use mathlib.Core.Option.{Option, none, some}
 use mathlib.Core.List.{List, [], _∷_, _++_}
-use Prim.Native.Nat.{ℕ, zero, suc, _+_, _-_, _≤_, _<_}
+use Prim.Native.Nat.{ℕ, suc, _+_, _-_, _<_}
 use native.Mathlib.Omega.{arith}
 use lib.Dec.{eqb, leb}
 use lib.ListN.{getD}
-use borrow.Author.Tests.{eqb-true, eq-eqb, ne-eqb, lt-leb}
+use borrow.Author.Tests.{eq-eqb, lt-leb}
 use Rattle.model.specs.Tests.{oneIf}
 use Rattle.model.specs.Masks.{bit}
 use Rattle.model.specs.Stores.{has, IsStore, emptyStore, allFilled}
 use Rattle.model.specs.Choices.{Lower}
 use Rattle.model.specs.Books.{Book, columnCount, WellFormed, ConsistentStore, Stays, Fails, closure}
 use Rattle.model.specs.Solutions.{Solution, FirstSolution, firstSolution}
-use Rattle.model.specs.Orders.{byte, kind, argument, mask, nonzero, Entry, narrowed, outside, refusal, isAccepted, push, trailFrom, allowed, domains}
-use Rattle.model.specs.Answers.{assigned, statusOf, doneOf, Answer, showing, outcomeOf, solutionMasks, finishing, answer, answersFrom, lastFrom, acceptedFrom, domainBytes, answerBytes}
-use Rattle.model.specs.Demands.{ChangesNothing, unrefused, Demand2, ShowsState, ShowsFinish, EveryAnswer, SameAllowed, Narrower, SameFinish, Claim1, Claim2}
-use Rattle.model.proofs.Tests.{and-l, and-r, and-i, and-false, either}
+use Rattle.model.specs.Orders.{kind, argument, mask, zeroPlaces, someWrong, Entry, narrowed, checkpoint, depth as depthOf, firstCause, outside, refusal, AcceptedFinish, push, allowed, domains}
+use Rattle.model.specs.Answers.{assigned, statusOf, doneOf, stateOnly, outcomeNumber, outcomeMasks, finishOutcome, outcome, showing, answer, answersFrom, acceptedFrom, domainBytes, answerBytes}
+use Rattle.model.specs.Demands.{ChangesNothing, unrefused, unmasked, Demand2, ShowsState, ShowsFinish, EveryAnswer, SameAllowed, Narrower, SameFinish, Claim1, Claim2}
+use Rattle.model.proofs.Tests.{and-false, either}
 use Rattle.model.proofs.Masks.{bit-of-zero}
 use Rattle.model.proofs.Stores.{store-ext, empty-has, filled-e, filled-i}
 use Rattle.model.proofs.Choices.{opt}
@@ -26,101 +26,15 @@ use Rattle.model.proofs.Books.{stays-iff, fails-iff, closed-or-empty}
 use Rattle.model.proofs.Solutions.{found-iff, none-iff, has-first, solution-mono, first-wider}
 use Rattle.model.proofs.Search.{search-first}
 use Rattle.model.proofs.Trails.{allowed-store, domains-store, domains-closed, domains-mono, narrowed-e}
-use Rattle.model.proofs.Refusals.{refusal-depth, outside-none, refusal-narrow, accepted-narrow, push-refused, push-narrow, push-finish}
-
--- ---- answers
--- an accepted finish, and any other order
-pub answer-finish : (b : Book) (L : List Entry) (o : List ℕ) → (eqb (kind o) 4 && isAccepted b L o) ≡ true → answer b L o ≡ finishing b L
-unfolding answer
-answer-finish b L o e = rw e
-
-pub answer-other : (b : Book) (L : List Entry) (o : List ℕ) → (eqb (kind o) 4 && isAccepted b L o) ≡ false
-    → answer b L o ≡ showing b (push b L o) (refusal b L o)
-unfolding answer
-answer-other b L o e = rw e
-
--- status and done of an answer are those of the domains that the order leaves
-pub record Tells (b : Book) (L : List Entry) (a : Answer) : Type 0 where
-  pub status : a .status ≡ statusOf b (domains b L)
-  pub done : a .done ≡ doneOf b (domains b L)
-
-pub showing-tells : (b : Book) (L : List Entry) (r : ℕ) → Tells b L (showing b L r)
-unfolding showing
-showing-tells b L r = record { status = refl; done = refl }
-
-finishing-tells : (b : Book) (L : List Entry) → Tells b L (finishing b L)
-unfolding finishing
-finishing-tells b L = record { status = refl; done = refl }
-
-pub answer-tells : (b : Book) (L : List Entry) (o : List ℕ) → Tells b (push b L o) (answer b L o)
-answer-tells b L o = go (either (eqb (kind o) 4 && isAccepted b L o))
-  where
-    go : ((eqb (kind o) 4 && isAccepted b L o) ≡ true) ⊎ ((eqb (kind o) 4 && isAccepted b L o) ≡ false) → Tells b (push b L o) (answer b L o)
-    go (inl p) = rw (answer-finish b L o p, push-finish b L o (eqb-true _ 4 (and-l _ _ p))) (finishing-tells b L)
-    go (inr q) = rw (answer-other b L o q) (showing-tells b (push b L o) (refusal b L o))
-
-pub last-tells : (b : Book) (os : List (List ℕ)) (L : List Entry) (a : Answer) → Tells b L a → Tells b (trailFrom b L os) (lastFrom b L a os)
-unfolding lastFrom trailFrom
-last-tells b [] L a t = t
-last-tells b (o ∷ os) L a t = last-tells b os (push b L o) (answer b L o) (answer-tells b L o)
-
--- byte 0 of an answer is the refusal
-pub answer-refused : (b : Book) (L : List Entry) (o : List ℕ) → (answer b L o) .refused ≡ refusal b L o
-unfolding finishing showing
-answer-refused b L o = go (either (eqb (kind o) 4 && isAccepted b L o))
-  where
-    go : ((eqb (kind o) 4 && isAccepted b L o) ≡ true) ⊎ ((eqb (kind o) 4 && isAccepted b L o) ≡ false)
-        → (answer b L o) .refused ≡ refusal b L o
-    go (inl p) = ap (λ (a : Answer). a .refused) (answer-finish b L o p) ∙ sym (eqb-true _ 0 (and-r (eqb (kind o) 4) _ p))
-    go (inr q) = ap (λ (a : Answer). a .refused) (answer-other b L o q)
-
--- the bytes before the domains
-pub bytes-0 : (a : Answer) → byte (answerBytes a) 0 ≡ a .refused
-unfolding answerBytes
-bytes-0 a = refl
-
-pub bytes-1 : (a : Answer) → byte (answerBytes a) 1 ≡ a .status
-unfolding answerBytes
-bytes-1 a = refl
-
-pub bytes-2 : (a : Answer) → byte (answerBytes a) 2 ≡ a .depth
-unfolding answerBytes
-bytes-2 a = refl
-
-pub bytes-3 : (a : Answer) → byte (answerBytes a) 3 ≡ a .outcome
-unfolding answerBytes
-bytes-3 a = refl
-
-pub bytes-4 : (a : Answer) → byte (answerBytes a) 4 ≡ a .done
-unfolding answerBytes
-bytes-4 a = refl
-
-pub bytes-zero : (a : Answer) (i : ℕ) → 5 ≤ i → i ≤ 7 → byte (answerBytes a) i ≡ 0
-unfolding answerBytes
-bytes-zero a i p q =
-    let e : i ≡ suc (suc (suc (suc (suc (i - 5))))) = omega arith in
-    ap (λ (j : ℕ). byte (answerBytes a) j) e ∙ at (i - 5) (omega arith)
-  where
-    at : (k : ℕ) → k ≤ 2 → getD (0 ∷ 0 ∷ 0 ∷ domainBytes (a .shown) 16) k 0 ≡ 0
-    at zero l = refl
-    at (suc zero) l = refl
-    at (suc (suc zero)) l = refl
-    at (suc (suc (suc k))) l = absurd (omega arith)
-
--- bytes 8 on are the domains shown
-pub bytes-8-on : (a : Answer) (i : ℕ) → 8 ≤ i → byte (answerBytes a) i ≡ getD (domainBytes (a .shown) 16) (i - 8) 0
-unfolding answerBytes
-bytes-8-on a i p =
-    let e : i ≡ suc (suc (suc (suc (suc (suc (suc (suc (i - 8)))))))) = omega arith in
-    ap (λ (j : ℕ). byte (answerBytes a) j) e
+use Rattle.model.proofs.Answers.{answer-finish, answer-other, answer-refused, bytes-0, bytes-8-on}
+use Rattle.model.proofs.Refusals.{refusal-depth, outside-none, refusal-narrow, accepted-narrow, push-refused, push-narrow}
 
 -- ---- demand 1
 -- a refused order changes nothing
 refused-order : (b : Book) (L : List Entry) (o : List ℕ) → (refusal b L o ≡ 0 → ⊥) → ChangesNothing b L o
-unfolding answer
 refused-order b L o n =
     let e : push b L o ≡ L = push-refused b L o n in
-    record { same-trail = e; shows = rw (ne-eqb (refusal b L o) 0 n, and-false (eqb (kind o) 4), e) }
+    record { same-trail = e; shows = answer-other b L o (λ f. n (f .accepted)) ∙ ap (λ (M : List Entry). showing b M (refusal b L o) stateOnly) e }
 
 count-unrefused : (b : Book) (os : List (List ℕ)) (L : List Entry) → acceptedFrom b L os ≡ unrefused (answersFrom b L os)
 unfolding acceptedFrom answersFrom unrefused
@@ -128,10 +42,11 @@ count-unrefused b [] L = refl
 count-unrefused b (o ∷ os) L =
     ap₂ (λ (r n : ℕ). oneIf (eqb r 0) + n) (sym (answer-refused b L o)) (count-unrefused b os (push b L o))
 
-mask-0-accepted : (b : Book) (L : List Entry) (o : List ℕ) → kind o ≡ 1 → nonzero 2 2 o ≡ false → argument o < columnCount b → mask o ≡ 0
+mask-0-accepted : (b : Book) (L : List Entry) (o : List ℕ) → kind o ≡ 1 → someWrong (zeroPlaces 1) o ≡ false → argument o < columnCount b → mask o ≡ 0
     → refusal b L o ≡ 0
+unfolding firstCause
 mask-0-accepted b L o k n l z =
-    refusal-narrow b L o k ∙ rw (n, lt-leb (columnCount b) (argument o) l, outside-0)
+    refusal-narrow b L o (rw k n) k ∙ rw (lt-leb (columnCount b) (argument o) l, outside-0)
   where
     no-bit : (v : ℕ) → (leb (getD (b .counts) (argument o) 0) v && bit v (mask o)) ≡ false
     no-bit v =
@@ -141,11 +56,18 @@ mask-0-accepted b L o k n l z =
     outside-0 : outside b (argument o) (mask o) ≡ false
     outside-0 = outside-none b (argument o) (mask o) no-bit
 
+-- the masks do not count
+depth-unmasked : (L : List Entry) → depthOf (unmasked L) ≡ depthOf L
+unfolding unmasked depthOf
+depth-unmasked [] = refl
+depth-unmasked (narrowed c m ∷ L) = depth-unmasked L
+depth-unmasked (checkpoint ∷ L) = ap suc (depth-unmasked L)
+
 pub claim1 : Claim1
 claim1 b =
     record {
       refused = refused-order b;
-      by-depth = refusal-depth b;
+      by-list = λ L M o e. refusal-depth b L M o (sym (depth-unmasked L) ∙ ap depthOf e ∙ depth-unmasked M);
       mask-0 = mask-0-accepted b;
       byte-0 = λ L o. bytes-0 (answer b L o) ∙ answer-refused b L o;
       counted = λ os. count-unrefused b os [];
@@ -220,21 +142,21 @@ module _ (b : Book) (p : WellFormed b) (L : List Entry) where
       }
 
 -- ---- demand 2 at every answer
-showing-state : (b : Book) → WellFormed b → (L : List Entry) (r : ℕ) → ShowsState b L (showing b L r)
+showing-state : (b : Book) → WellFormed b → (L : List Entry) (r : ℕ) → ShowsState b L (showing b L r stateOnly)
 unfolding showing
 showing-state b p L r = record { stays = stays-in-domains b p L; failed = failed-status-iff b p L; outcome = refl }
 
-finishing-finish : (b : Book) → WellFormed b → (L : List Entry) → ShowsFinish b L (finishing b L)
-unfolding finishing
-finishing-finish b p L =
+showing-finish : (b : Book) → WellFormed b → (L : List Entry) → ShowsFinish b L (showing b L 0 (finishOutcome (firstSolution b (domains b L))))
+unfolding showing
+showing-finish b p L =
     record {
       found = (
         λ e. to e (opt (firstSolution b D)),
-        λ s. let y = has-first b D d (s .0) (s .1) in ap outcomeOf (found-iff b D d (y .0) .1 (y .1)),
+        λ s. let y = has-first b D d (s .0) (s .1) in ap number (found-iff b D d (y .0) .1 (y .1)),
       );
-      first = λ x f. ap (solutionMasks (columnCount b)) (found-iff b D d x .1 f);
-      not-found = (λ e. none-iff b D d .0 (no e (opt (firstSolution b D))), λ n. ap outcomeOf (none-iff b D d .1 n));
-      zeros = λ n. ap (solutionMasks (columnCount b)) (none-iff b D d .1 n);
+      first = λ x f. ap masks (found-iff b D d x .1 f);
+      not-found = (λ e. none-iff b D d .0 (no e (opt (firstSolution b D))), λ n. ap number (none-iff b D d .1 n));
+      zeros = λ n. ap masks (none-iff b D d .1 n);
       failed = failed-status-iff b p L;
     }
   where
@@ -244,12 +166,18 @@ finishing-finish b p L =
     d : IsStore (columnCount b) D
     d = domains-store b L
 
-    to : outcomeOf (firstSolution b D) ≡ 1 → (firstSolution b D ≡ none) ⊎ ((x : List ℕ) × (firstSolution b D ≡ some x))
+    number : Option (List ℕ) → ℕ
+    number x = outcomeNumber (finishOutcome x)
+
+    masks : Option (List ℕ) → List ℕ
+    masks x = outcomeMasks (columnCount b) D (finishOutcome x)
+
+    to : number (firstSolution b D) ≡ 1 → (firstSolution b D ≡ none) ⊎ ((x : List ℕ) × (firstSolution b D ≡ some x))
         → (x : List ℕ) × Solution b D x
     to e (inl n) = let z : _≡_ {A = ℕ} 2 1 = rw n at e in absurd (omega arith)
     to e (inr q) = (q .0, found-iff b D d (q .0) .0 (q .1) .solution)
 
-    no : outcomeOf (firstSolution b D) ≡ 2 → (firstSolution b D ≡ none) ⊎ ((x : List ℕ) × (firstSolution b D ≡ some x)) → firstSolution b D ≡ none
+    no : number (firstSolution b D) ≡ 2 → (firstSolution b D ≡ none) ⊎ ((x : List ℕ) × (firstSolution b D ≡ some x)) → firstSolution b D ≡ none
     no e (inl n) = n
     no e (inr q) = let z : _≡_ {A = ℕ} 1 2 = rw (q .1) at e in absurd (omega arith)
 
@@ -274,15 +202,10 @@ every-answer : (b : Book) → WellFormed b → EveryAnswer b
 every-answer b p =
     record {
       opened = showing-state b p [] 0;
-      ordered = λ L o n. ordered L o n (either (eqb (kind o) 4 && isAccepted b L o));
-      finished = λ L o k e. rw (answer-finish b L o (and-i (eq-eqb _ 4 k) (eq-eqb _ 0 e))) (finishing-finish b p L);
+      ordered = λ L o n. rw (answer-other b L o n) (showing-state b p (push b L o) (refusal b L o));
+      finished = λ L o f. rw (answer-finish b L o f) (showing-finish b p L);
       mask-0 = mask-0-fails b;
     }
-  where
-    ordered : (L : List Entry) (o : List ℕ) → (kind o ≡ 4 → refusal b L o ≡ 0 → ⊥)
-        → ((eqb (kind o) 4 && isAccepted b L o) ≡ true) ⊎ ((eqb (kind o) 4 && isAccepted b L o) ≡ false) → ShowsState b (push b L o) (answer b L o)
-    ordered L o n (inl t) = absurd (n (eqb-true _ 4 (and-l _ _ t)) (eqb-true _ 0 (and-r (eqb (kind o) 4) _ t)))
-    ordered L o n (inr t) = rw (answer-other b L o t) (showing-state b p (push b L o) (refusal b L o))
 
 pub claim2 : Claim2
 claim2 b p = (demand2 b p, every-answer b p)
@@ -298,18 +221,22 @@ pub same-narrower : (b : Book) (L M : List Entry) → SameAllowed b L M → Narr
 same-narrower b L M h = record { at = λ c v e. sym (h .at c v) ∙ e }
 
 -- two finishes over equal domains
-pub finishing-same : (b : Book) (L M : List Entry) → domains b L ≡ domains b M → SameFinish (answerBytes (finishing b L)) (answerBytes (finishing b M))
-unfolding answerBytes finishing
-finishing-same b L M e =
-    record {
+pub finish-same : (b : Book) (L M : List Entry) (o : List ℕ) → domains b L ≡ domains b M → AcceptedFinish b L o → AcceptedFinish b M o
+    → SameFinish (answerBytes (answer b L o)) (answerBytes (answer b M o))
+unfolding answerBytes showing
+finish-same b L M o e f g =
+    let u = showing b L 0 (finishOutcome (firstSolution b (domains b L))) in
+    let v = showing b M 0 (finishOutcome (firstSolution b (domains b M))) in
+    rw (answer-finish b L o f, answer-finish b M o g)
+    (record {
       byte-1 = ap (statusOf b) e;
-      byte-3 = ap (λ (D : List ℕ). outcomeOf (firstSolution b D)) e;
+      byte-3 = ap (λ (D : List ℕ). outcomeNumber (finishOutcome (firstSolution b D))) e;
       byte-4 = ap (doneOf b) e;
       bytes-8-to-71 = λ i p q.
-          bytes-8-on (finishing b L) i p
-          ∙ ap (λ (D : List ℕ). getD (domainBytes (solutionMasks (columnCount b) (firstSolution b D)) 16) (i - 8) 0) e
-          ∙ sym (bytes-8-on (finishing b M) i p);
-    }
+          bytes-8-on u i p
+          ∙ ap (λ (D : List ℕ). getD (domainBytes (outcomeMasks (columnCount b) D (finishOutcome (firstSolution b D))) 16) (i - 8) 0) e
+          ∙ sym (bytes-8-on v i p);
+    })
 
 -- the wider's first solution is the same as the narrower's or lower
 pub wider-first : (b : Book) (L M : List Entry) → Narrower b L M → (x : List ℕ) → FirstSolution b (domains b L) x

@@ -11,6 +11,7 @@ pub mod Solutions
 pub mod Search
 pub mod Trails
 pub mod Refusals
+pub mod Answers
 pub mod Rows
 pub mod OneSheet
 pub mod Demands

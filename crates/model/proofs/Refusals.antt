@@ -1,19 +1,21 @@
 -- Laws of refusals: each kind's causes in their order, what an accepted order tells, and what a refused one leaves. Assumes nothing.
-use mathlib.Core.Path.{_≡_, refl, sym, _∙_}
-use mathlib.Core.Bool.{Bool, true, false, cond, _&&_, _||_, true≢false}
+use mathlib.Core.Path.{_≡_, ap, refl, sym, _∙_}
+use mathlib.Core.Bool.{Bool, true, false, cond, not, _&&_, _||_, true≢false}
 use mathlib.Core.Logic.{_⊎_, inl, inr}
 use mathlib.Core.List.{List, [], _∷_, _++_}
 use Prim.Native.Nat.{ℕ, suc, _≤_, _<_}
 use native.Mathlib.Omega.{arith}
 use lib.Dec.{eqb, ltb, leb}
 use lib.ListN.{getD}
+use Rattle.fields.specs.Bytes.{byteAt}
 use borrow.Author.Tests.{eqb-true, eqb-false, ne-eqb, ltb-false, leb-false}
 use Rattle.model.specs.Masks.{bit}
 use Rattle.model.specs.Books.{Book, columnCount}
-use Rattle.model.specs.Orders.{kind, argument, mask, nonzero, Entry, narrowed, checkpoint, depth, before, Cause, refuse_if_, firstCause, outside, refusal, applied, push}
+use Rattle.model.specs.Orders.{byKind, narrowCauses, markCauses, backCauses, otherCauses, kind, argument, mask, zeroPlaces, wrongPlace, someWrong, Entry, narrowed, checkpoint, depth, before, Cause, refuse_if_, firstCause, outside, refusal, applied, push}
+use Rattle.model.proofs.Masks.{bit-of-zero}
 use Rattle.model.proofs.Tests.{or-l, or-r, either, anyBelow-none}
 
--- "An order's refusal goes by its bytes, the book and this list only", and of the list by its depth alone: being dead is no cause
+-- of the list its depth alone counts
 pub refusal-depth : (b : Book) (L M : List Entry) (o : List ℕ) → depth L ≡ depth M → refusal b L o ≡ refusal b M o
 unfolding refusal
 refusal-depth b L M o e = rw e
@@ -29,28 +31,64 @@ unfolding firstCause
 no-cause n true cs e = absurd (omega arith)
 no-cause n false cs e = (refl, e)
 
+-- causes with small numbers give a small refusal
+no-causes : firstCause [] < 256
+unfolding firstCause
+no-causes = omega arith
+
+small-cause : (n : ℕ) (t : Bool) (cs : List Cause) → n < 256 → firstCause cs < 256 → firstCause ((refuse n if t) ∷ cs) < 256
+unfolding firstCause
+small-cause n true cs l h = l
+small-cause n false cs l h = h
+
+-- where no place must be zero, none is wrong
+none-wrong : (o : List ℕ) → someWrong 0 o ≡ false
+unfolding someWrong wrongPlace
+none-wrong o = anyBelow-none 8 (wrongPlace 0 o) (λ i l. ap (λ (t : Bool). t && not (eqb (byteAt o i) 0)) (bit-of-zero i))
+
 module _ (b : Book) (L : List Entry) (o : List ℕ) where
   -- ---- the refusal of each kind
-  pub refusal-narrow : kind o ≡ 1
-      → refusal b L o ≡ cond (nonzero 2 2 o) 25 (cond (leb (columnCount b) (argument o)) 21 (cond (outside b (argument o) (mask o)) 22 0))
+  pub refusal-zero : someWrong (zeroPlaces (kind o)) o ≡ true → refusal b L o ≡ 25
   unfolding refusal firstCause
-  refusal-narrow k = rw k
+  refusal-zero e = rw e
 
-  pub refusal-mark : kind o ≡ 2 → refusal b L o ≡ cond (nonzero 1 7 o) 25 (cond (eqb (depth L) 16) 23 0)
-  unfolding refusal firstCause
-  refusal-mark k = rw k
+  -- where every byte that must be zero is, the kind's own causes count
+  module _ (e : someWrong (zeroPlaces (kind o)) o ≡ false) where
+    pub refusal-narrow : kind o ≡ 1 → refusal b L o ≡ firstCause (narrowCauses b o)
+    unfolding refusal firstCause
+    refusal-narrow k = rw (e, k)
 
-  pub refusal-back : kind o ≡ 3 → refusal b L o ≡ cond (nonzero 2 6 o) 25 (cond (eqb (argument o) 0 || ltb (depth L) (argument o)) 24 0)
-  unfolding refusal firstCause
-  refusal-back k = rw k
+    pub refusal-mark : kind o ≡ 2 → refusal b L o ≡ firstCause (markCauses (depth L))
+    unfolding refusal firstCause
+    refusal-mark k = rw (e, k)
 
-  pub refusal-finish : kind o ≡ 4 → refusal b L o ≡ cond (nonzero 1 7 o) 25 0
+    pub refusal-back : kind o ≡ 3 → refusal b L o ≡ firstCause (backCauses (depth L) o)
+    unfolding refusal firstCause
+    refusal-back k = rw (e, k)
+
+  pub refusal-finish : kind o ≡ 4 → refusal b L o ≡ cond (someWrong (zeroPlaces 4) o) 25 0
   unfolding refusal firstCause
   refusal-finish k = rw k
 
   pub refusal-other : (kind o ≡ 1 → ⊥) → (kind o ≡ 2 → ⊥) → (kind o ≡ 3 → ⊥) → (kind o ≡ 4 → ⊥) → refusal b L o ≡ 20
   unfolding refusal firstCause
-  refusal-other p q r s = rw (ne-eqb (kind o) 1 p, ne-eqb (kind o) 2 q, ne-eqb (kind o) 3 r, ne-eqb (kind o) 4 s)
+  refusal-other p q r s = rw (ne-eqb (kind o) 1 p, ne-eqb (kind o) 2 q, ne-eqb (kind o) 3 r, ne-eqb (kind o) 4 s, none-wrong o)
+
+  -- a refusal fits a byte
+  pub refusal-small : refusal b L o < 256
+  unfolding refusal
+  refusal-small =
+      small-cause 25 _ _ (omega arith)
+      (go (either (eqb (kind o) 1)) (either (eqb (kind o) 2)) (either (eqb (kind o) 3)) (either (eqb (kind o) 4)))
+    where
+      go : (eqb (kind o) 1 ≡ true) ⊎ (eqb (kind o) 1 ≡ false) → (eqb (kind o) 2 ≡ true) ⊎ (eqb (kind o) 2 ≡ false)
+          → (eqb (kind o) 3 ≡ true) ⊎ (eqb (kind o) 3 ≡ false) → (eqb (kind o) 4 ≡ true) ⊎ (eqb (kind o) 4 ≡ false)
+          → firstCause (byKind (kind o) (narrowCauses b o) (markCauses (depth L)) (backCauses (depth L) o) [] otherCauses) < 256
+      go (inl k) p q r = rw k (small-cause 21 _ _ (omega arith) (small-cause 22 _ _ (omega arith) no-causes))
+      go (inr k) (inl p) q r = rw (k, p) (small-cause 23 _ _ (omega arith) no-causes)
+      go (inr k) (inr p) (inl q) r = rw (k, p, q) (small-cause 24 _ _ (omega arith) no-causes)
+      go (inr k) (inr p) (inr q) (inl r) = rw (k, p, q, r) no-causes
+      go (inr k) (inr p) (inr q) (inr r) = rw (k, p, q, r) (small-cause 20 _ _ (omega arith) no-causes)
 
   -- ---- what an accepted order tells
   pub accepted-narrow : kind o ≡ 1 → refusal b L o ≡ 0 → argument o < columnCount b

@@ -1,23 +1,23 @@
 -- Laws of valid rows: a value is supported in a sheet exactly when a valid row has it. What an engine strikes by its rows is not
 -- supported, and where every value has a valid row the store is consistent. Assumes nothing.
-use mathlib.Core.Path.{_∙_, _≡_, ap, refl, sym}
-use mathlib.Core.Bool.{false, false≢true, true}
+use mathlib.Core.Path.{_∙_, _≡_, ap, ap₂, refl, sym}
+use mathlib.Core.Bool.{Bool, _&&_, false, false≢true, true}
 use mathlib.Core.Logic.{_↔_, _⊎_, inl, inr}
 use mathlib.Core.List.{List, List·Memᴰ, List·Memᴰ·head, List·Memᴰ·tail, [], _∷_}
 use Prim.Native.Nat.{_*_, _+_, _<_, _^_, suc, zero, ℕ}
 use native.Mathlib.Nat.{le-of-suc-le-suc, not-suc-le-zero, zero-lt-suc}
 use native.Mathlib.Omega.{arith}
 use lib.Dec.{ltb}
-use lib.ListN.{getD, length}
+use lib.ListN.{drop, getD, length}
 use borrow.Author.Tests.{lt-ltb, ltb-true}
-use Rattle.model.specs.Books.{Book, Sheet, Support, WellFormed, columnCount, supported, supportedIn}
+use Rattle.model.specs.Books.{Book, Sheet, Support, WellFormed, WellFormedSheet, columnCount, inDomain, supported, supportedIn}
 use Rattle.model.specs.Choices.{Takes, pick}
 use Rattle.model.specs.Closure.{Consistent}
 use Rattle.model.specs.Masks.{bit}
 use Rattle.model.specs.States.{valid, validRow, validWord}
 use Rattle.model.specs.Stores.{IsStore, has}
-use Rattle.model.proofs.Books.{allows-e, allows-i, consistent-from, support-e}
-use Rattle.model.proofs.Masks.{bit-maskOf, mask-ext, maskOf-lt}
+use Rattle.model.proofs.Books.{allows-e, allows-i, consistent-from, support-e, support-i}
+use Rattle.model.proofs.Masks.{bit-maskOf, mask-ext, maskOf-lt, maskOf-same}
 use Rattle.model.proofs.Tests.{allIn-e, and-i, and-l, and-r, either}
 
 pub valid-e : (D cs r : List ℕ) → valid D cs r ≡ true → Takes (pick D cs) r
@@ -42,6 +42,15 @@ valid-i D (c ∷ cs) [] h = absurd (omega (arith, h .size))
 valid-i D (c ∷ cs) (v ∷ r) h =
     and-i (h .each 0 (zero-lt-suc (length (pick D cs))))
     (valid-i D cs r (record { size = omega (arith, h .size); each = λ i l. h .each (suc i) (omega arith) }))
+
+-- it goes by the domains of its own columns
+valid-same : (D E cs r : List ℕ) → pick D cs ≡ pick E cs → valid D cs r ≡ valid E cs r
+unfolding valid
+valid-same D E [] [] e = refl
+valid-same D E [] (x ∷ r) e = refl
+valid-same D E (c ∷ cs) [] e = refl
+valid-same D E (c ∷ cs) (x ∷ r) e =
+    ap₂ (λ (d : ℕ) (t : Bool). inDomain x d && t) (ap (λ (l : List ℕ). getD l 0 0) e) (valid-same D E cs r (ap (drop 1) e))
 
 -- an element of a list has a place, and what stands at a place is an element
 at-place : (x : List ℕ) (l : List (List ℕ)) → List·Memᴰ x l → (i : ℕ) × (i < length l) × (getD l i [] ≡ x)
@@ -82,6 +91,20 @@ support-iff D s i v = (to, from)
           value = k .value;
         }
 
+-- a value without a valid row has no support, and one with a valid row has
+pub unsupportedIn : (D counts : List ℕ) (s : Sheet) → WellFormedSheet counts s → (i : ℕ) → i < length (s .columns) → (v : ℕ)
+    → (ValidSupport D s i v → ⊥) → supportedIn D (getD (s .columns) i 0) v s ≡ false
+unsupportedIn D counts s p i l v n = go (either (supportedIn D (getD (s .columns) i 0) v s))
+  where
+    go : (supportedIn D (getD (s .columns) i 0) v s ≡ true) ⊎ (supportedIn D (getD (s .columns) i 0) v s ≡ false)
+        → supportedIn D (getD (s .columns) i 0) v s ≡ false
+    go (inl e) = absurd (n (support-iff D s i v .0 (support-e D counts s p i l v e)))
+    go (inr e) = e
+
+pub supported-valid : (D : List ℕ) → ((k : ℕ) → getD D k 0 < 2 ^ 32) → (s : Sheet) (c v : ℕ)
+    → ((i : ℕ) → i < length (s .columns) → getD (s .columns) i 0 ≡ c → ValidSupport D s i v) → supportedIn D c v s ≡ true
+supported-valid D d s c v h = support-i D d s c v (λ i l q. support-iff D s i v .1 (h i l q))
+
 module _ (b : Book) (p : WellFormed b) (D : List ℕ) where
   -- a value without a valid row in some sheet may be struck
   pub unsupported : (s : Sheet) → List·Memᴰ s (b .sheets) → (i : ℕ) → i < length (s .columns) → (v : ℕ)
@@ -118,3 +141,10 @@ pub word-same : (D : List ℕ) (s : Sheet) (w x : ℕ) → x < 2 ^ 64 → ((k : 
 unfolding validWord
 word-same D s w x l h =
     mask-ext 64 x (validWord D s w) l (maskOf-lt 64 (λ k. validRow D s (64 * w + k))) (λ k m. h k m ∙ sym (word-row D s w k m))
+
+-- rows and words go by the domains of the sheet's own columns
+pub words-same : (D E : List ℕ) (s : Sheet) → pick D (s .columns) ≡ pick E (s .columns) → (w : ℕ) → validWord D s w ≡ validWord E s w
+unfolding validWord validRow
+words-same D E s e w =
+    maskOf-same 64 _ _
+    (λ k l. ap (λ (t : Bool). ltb (64 * w + k) (length (s .rows)) && t) (valid-same D E (s .columns) (getD (s .rows) (64 * w + k) []) e))

@@ -18,7 +18,6 @@ use Rattle.model.specs.Stores.{has, Within, IsStore, emptyStore, assign,
 use Rattle.model.specs.Choices.{pick, Lower, firstOf}
 use Rattle.model.specs.Books.{Sheet, Book, columnCount, allows, WellFormed, ConsistentStore, supported, closure}
 use Rattle.model.specs.Solutions.{Solution, FirstSolution, firstSolution}
-use Rattle.model.specs.Answers.{solutionMasks}
 use Rattle.model.specs.Search.{after, openColumn, valueOf, searchFrom, searchSolution}
 use Rattle.model.proofs.Tests.{either, lowest-e, lowest-before, one-same, one-count, some-count, same-test, below}
 use Rattle.model.proofs.Masks.{mask-ext, bit-pow, bit-pow-only}
@@ -82,7 +81,7 @@ getD-map f (x ∷ xs) (suc i) h = getD-map f xs i (le-of-suc-le-suc h)
 
 -- where every column is single, the masks of its values are the domains
 pub assigned-masks : (C : ℕ) (D : List ℕ) → IsStore C D → ((c : ℕ) → c < C → (v : ℕ) × (has D c v ≡ true))
-    → ((c : ℕ) → c < C → eqb (size (getD D c 0)) 1 ≡ true) → solutionMasks C (some (map valueOf D)) ≡ D
+    → ((c : ℕ) → c < C → eqb (size (getD D c 0)) 1 ≡ true) → map (λ v. 2 ^ v) (map valueOf D) ≡ D
 assigned-masks C D d h one =
     ext-getD 0 (map (λ v. 2 ^ v) (map valueOf D)) D long
     (λ c l.
@@ -354,3 +353,28 @@ module _ (b : Book) (p : WellFormed b) where
   pub search-first : (D : List ℕ) → IsStore (columnCount b) D → closure b D ≡ D → searchSolution b D ≡ firstSolution b D
   unfolding searchSolution
   search-first D d s = search-from (suc (values (columnCount b) D)) D d s (le-refl _)
+
+  -- ---- the search, one column at a time
+  module _ (D : List ℕ) (d : IsStore (columnCount b) D) (s : closure b D ≡ D) where
+    -- every column is single: the domains are the solution
+    pub searched-single : ConsistentStore b D → ((c : ℕ) → c < columnCount b → eqb (size (getD D c 0)) 1 ≡ true) → searchSolution b D ≡ some (map valueOf D)
+    searched-single h one = search-first D d s ∙ found-iff b D d (map valueOf D) .1 (assigned-first b p D d h one)
+
+    -- no column can be set: there is no solution
+    pub searched-empty : ((x : List ℕ) → Solution b D x → ⊥) → searchSolution b D ≡ none
+    searched-empty n = search-first D d s ∙ none-iff b D d .1 (record { none = n })
+
+    module _ (c : ℕ) (l : c < columnCount b) (one : (k : ℕ) → k < c → eqb (size (getD D k 0)) 1 ≡ true) where
+      -- column c set to v
+      to : (v : ℕ) → has D c v ≡ true → searchSolution b (after b D c v) ≡ firstSolution b (after b D c v)
+      to v h = search-first (after b D c v) (after-store b p D d c l v h) (after-closed b p D d c l v h)
+
+      -- the first value whose search finds something has what the search finds
+      pub searched-found : (v : ℕ) (x : List ℕ) → has D c v ≡ true → searchSolution b (after b D c v) ≡ some x
+          → ((u : ℕ) → u < v → has D c u ≡ true → searchSolution b (after b D c u) ≡ none) → searchSolution b D ≡ some x
+      searched-found v x h e before =
+          search-first D d s ∙ branch-found b p D d c l one v x h (sym (to v h) ∙ e) (λ u q i. sym (to u i) ∙ before u q i)
+
+      -- no value's search finds anything
+      pub searched-none : ((u : ℕ) → has D c u ≡ true → searchSolution b (after b D c u) ≡ none) → searchSolution b D ≡ none
+      searched-none each = search-first D d s ∙ branch-failed b p D d c l one (λ u i. sym (to u i) ∙ each u i)

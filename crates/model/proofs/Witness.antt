@@ -135,15 +135,15 @@ rowFacts =
             domain = λ c. refl;
             rows = λ s w l m.
                 eqb-true _ _
-                (allBelow-e 8 (λ w. eqb (ofSheet (openingArrays .words) s w) (validWord (domains H []) (sheetAt H s) w))
-                (allBelow-e 2 (λ s. allBelow 8 (λ w. eqb (ofSheet (openingArrays .words) s w) (validWord (domains H []) (sheetAt H s) w))) refl s l) w m);
+                (allBelow-e 8 (λ w. eqb (ofSheet (openingArrays .valid) s w) (validWord (domains H []) (sheetAt H s) w))
+                (allBelow-e 2 (λ s. allBelow 8 (λ w. eqb (ofSheet (openingArrays .valid) s w) (validWord (domains H []) (sheetAt H s) w))) refl s l) w m);
             indexed = indexed;
           };
       narrowed-0 = refl;
       narrowed-1 = refl;
     }
   where
-    indexed : (s : ℕ) → s < 2 → Indexed (ofSheet (openingArrays .index) s) (getD (openingArrays .nonzero) s 0) (ofSheet (openingArrays .words) s)
-    indexed zero l = first-indexed (ofSheet (openingArrays .index) 0) (ofSheet (openingArrays .words) 0) refl (omega arith) refl
-    indexed (suc zero) l = first-indexed (ofSheet (openingArrays .index) 1) (ofSheet (openingArrays .words) 1) refl (omega arith) refl
+    indexed : (s : ℕ) → s < 2 → Indexed (ofSheet (openingArrays .index) s) (getD (openingArrays .nonzero) s 0) (ofSheet (openingArrays .valid) s)
+    indexed zero l = first-indexed (ofSheet (openingArrays .index) 0) (ofSheet (openingArrays .valid) 0) refl (omega arith) refl
+    indexed (suc zero) l = first-indexed (ofSheet (openingArrays .index) 1) (ofSheet (openingArrays .valid) 1) refl (omega arith) refl
     indexed (suc (suc s)) l = absurd (omega arith)

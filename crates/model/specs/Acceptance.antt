@@ -6,9 +6,10 @@ use mathlib.Core.Option.{none, some}
 use mathlib.Core.List.{List, [], _∷_}
 use Prim.Native.Nat.{ℕ, zero, suc}
 use lib.ListN.{replicate}
+use Rattle.fields.specs.Bytes.{byteAt}
 use Rattle.model.specs.Books.{Sheet, Book, WellFormed}
 use Rattle.model.specs.Search.{searchSolution}
-use Rattle.model.specs.Orders.{byte, Entry, checkpoint, refusal, trail, domains}
+use Rattle.model.specs.Orders.{Entry, checkpoint, refusal, trail, domains}
 use Rattle.model.specs.Answers.{Answer, answers, lastAnswer, acceptedCount, answerBytes}
 use Rattle.model.specs.States.{validWord, sheetAt, Arrays, StateHolds}
 use Rattle.model.specs.Demands.{SameAllowed}
@@ -153,7 +154,7 @@ pub record RefusalFacts : Type 0 where
   pub finish-refused : lastAnswer H (order 4 1 0 0 0 0 ∷ []) ≡ line 25 1 0 0 0 (7 ∷ 3 ∷ 3 ∷ [])
   -- "Other kinds are refused with 20, before the rest"
   pub kind-0 : refusal H [] (order 0 3 1 1 255 255) ≡ 20
-  pub kind-5 : refusal H [] (order 5 3 1 1 255 255) ≡ 20
+  pub kind-7 : refusal H [] (order 7 3 1 1 255 255) ≡ 20
 
 -- ---- bytes: "fields of several bytes have the lowest byte first"
 -- one column of 32 values, no sheet
@@ -172,8 +173,8 @@ pub record ByteFacts : Type 0 where
 -- the state of H at its opening: rows 0 to 3 of sheet 0, rows 0 to 2 of sheet 1
 abbrev pub openingArrays : Arrays
 openingArrays = record {
-  doms = 7 ∷ 3 ∷ 3 ∷ [];
-  words = 15 ∷ 0 ∷ 0 ∷ 0 ∷ 0 ∷ 0 ∷ 0 ∷ 0 ∷ 7 ∷ 0 ∷ 0 ∷ 0 ∷ 0 ∷ 0 ∷ 0 ∷ 0 ∷ [];
+  dom = 7 ∷ 3 ∷ 3 ∷ [];
+  valid = 15 ∷ 0 ∷ 0 ∷ 0 ∷ 0 ∷ 0 ∷ 0 ∷ 0 ∷ 7 ∷ 0 ∷ 0 ∷ 0 ∷ 0 ∷ 0 ∷ 0 ∷ 0 ∷ [];
   index = 0 ∷ 1 ∷ 2 ∷ 3 ∷ 4 ∷ 5 ∷ 6 ∷ 7 ∷ 0 ∷ 1 ∷ 2 ∷ 3 ∷ 4 ∷ 5 ∷ 6 ∷ 7 ∷ [];
   nonzero = 1 ∷ 1 ∷ [];
 }
@@ -199,6 +200,6 @@ unknown = 9 ∷ 0 ∷ 0 ∷ 0 ∷ 0 ∷ 0 ∷ 0 ∷ 0 ∷ []
 
 pub record MayDiffer : Type 0 where
   pub same-marked : SameAllowed H (trail H []) (trail H (mark ∷ []))
-  pub depths : (byte (answerBytes (lastAnswer H [])) 2 ≡ 0) × (byte (answerBytes (lastAnswer H (mark ∷ []))) 2 ≡ 1)
+  pub depths : (byteAt (answerBytes (lastAnswer H [])) 2 ≡ 0) × (byteAt (answerBytes (lastAnswer H (mark ∷ []))) 2 ≡ 1)
   pub same-unknown : SameAllowed H (trail H []) (trail H (unknown ∷ []))
-  pub refusals : (byte (answerBytes (lastAnswer H [])) 0 ≡ 0) × (byte (answerBytes (lastAnswer H (unknown ∷ []))) 0 ≡ 20)
+  pub refusals : (byteAt (answerBytes (lastAnswer H [])) 0 ≡ 0) × (byteAt (answerBytes (lastAnswer H (unknown ∷ []))) 0 ≡ 20)

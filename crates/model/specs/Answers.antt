@@ -1,16 +1,17 @@
 -- Status, done byte and answers, as values and as bytes; all answers of a list, and the number of accepted orders.
-use mathlib.Core.Bool.{Bool, cond, _&&_}
+use mathlib.Core.Bool.{Bool, cond}
 use mathlib.Core.Option.{Option, none, some}
 use mathlib.Core.List.{List, [], _∷_, _++_, map}
-use Prim.Native.Nat.{ℕ, zero, suc, _+_, _*_, _/_, _%_, _^_}
+use Prim.Native.Nat.{ℕ, zero, suc, _+_, _*_, _^_}
 use lib.Dec.{eqb, ltb, leb}
 use lib.ListN.{length, getD, take, drop}
+use Rattle.fields.specs.Bytes.{wordAt, wordBytes}
 use Rattle.model.specs.Tests.{allBelow, oneIf, count, tab}
 use Rattle.model.specs.Masks.{size}
 use Rattle.model.specs.Stores.{allFilled}
 use Rattle.model.specs.Books.{Sheet, Book, columnCount}
 use Rattle.model.specs.Solutions.{firstSolution}
-use Rattle.model.specs.Orders.{kind, Entry, depth, refusal, isAccepted, push, domains}
+use Rattle.model.specs.Orders.{byKind, kind, Entry, depth, refusal, isAccepted, push, domains}
 
 -- ---- status and done
 -- every column holds one value
@@ -44,40 +45,55 @@ pub record Answer : Type 0 where
   pub done : ℕ
   pub shown : List ℕ
 
--- the state that the trail L leaves, with a refusal or 0
-unfoldable pub showing : Book → List Entry → ℕ → Answer
-showing b L r =
-    record { refused = r; status = statusOf b (domains b L); depth = depth L; outcome = 0; done = doneOf b (domains b L); shown = domains b L }
+-- what an order shows besides the state
+pub data Outcome : Type 0 where
+  stateOnly : Outcome
+  found : List ℕ → Outcome
+  notFound : Outcome
 
--- "for an accepted finish 1 found, 2 none"
-abbrev pub outcomeOf : Option (List ℕ) → ℕ
-outcomeOf (some x) = 1
-outcomeOf none = 2
+-- byte 3: "zero, or for an accepted finish 1 found, 2 none"
+abbrev pub outcomeNumber : Outcome → ℕ
+outcomeNumber stateOnly = 0
+outcomeNumber (found x) = 1
+outcomeNumber notFound = 2
 
--- "the full set there, one bit for each column, or zeros for none"
-abbrev pub solutionMasks : ℕ → Option (List ℕ) → List ℕ
-solutionMasks C (some x) = map (λ v. 2 ^ v) x
-solutionMasks C none = tab C (λ c. 0)
+-- "sixteen domains", the current ones D, or for a finish "the full set there, one bit for each column, or zeros for none"
+abbrev pub outcomeMasks : ℕ → List ℕ → Outcome → List ℕ
+outcomeMasks C D stateOnly = D
+outcomeMasks C D (found x) = map (λ v. 2 ^ v) x
+outcomeMasks C D notFound = tab C (λ c. 0)
 
--- an accepted finish: "The state stays"
-unfoldable pub finishing : Book → List Entry → Answer
-finishing b L =
+-- what a finish shows
+abbrev pub finishOutcome : Option (List ℕ) → Outcome
+finishOutcome (some x) = found x
+finishOutcome none = notFound
+
+-- what the order o shows when L stands: an accepted finish what it finds, any other order the state alone
+unfoldable pub outcome : Book → List Entry → List ℕ → Outcome
+outcome b L o =
+    cond (isAccepted b L o)
+    (byKind (kind o) stateOnly stateOnly stateOnly (finishOutcome (firstSolution b (domains b L))) stateOnly)
+    stateOnly
+
+-- the state that the trail L leaves, with a refusal or 0, and what is shown besides
+unfoldable pub showing : Book → List Entry → ℕ → Outcome → Answer
+showing b L r f =
     record {
-      refused = 0;
+      refused = r;
       status = statusOf b (domains b L);
       depth = depth L;
-      outcome = outcomeOf (firstSolution b (domains b L));
+      outcome = outcomeNumber f;
       done = doneOf b (domains b L);
-      shown = solutionMasks (columnCount b) (firstSolution b (domains b L));
+      shown = outcomeMasks (columnCount b) (domains b L) f;
     }
 
--- the answer to an order that comes when L stands: "A refused order shows the unchanged state"
+-- the answer to an order that comes when L stands: "A refused order shows the unchanged state"; of a finish, "The state stays"
 unfoldable pub answer : Book → List Entry → List ℕ → Answer
-answer b L o = cond (eqb (kind o) 4 && isAccepted b L o) (finishing b L) (showing b (push b L o) (refusal b L o))
+answer b L o = showing b (push b L o) (refusal b L o) (outcome b L o)
 
 -- "Answer 0 is the opening"
 abbrev pub opening : Book → Answer
-opening b = showing b [] 0
+opening b = showing b [] 0 stateOnly
 
 -- ---- whole lists
 -- the answers to a list that comes when L stands
@@ -112,10 +128,6 @@ acceptedCount b os = acceptedFrom b [] os
 --     0        1       2      3        4     5  6  7   8 .. 11   12 .. 15        68 .. 71
 --     refusal  status  depth  outcome  done  0  0  0   domain 0  domain 1   ..   domain 15
 --
--- a number of 32 bits as four bytes, the lowest first
-abbrev pub wordBytes : ℕ → List ℕ
-wordBytes x = x % 256 ∷ x / 256 % 256 ∷ x / 65536 % 256 ∷ x / 16777216 % 256 ∷ []
-
 -- the first n domains, "zero from C on"
 unfoldable pub domainBytes : List ℕ → ℕ → List ℕ
 domainBytes D zero = []
@@ -134,3 +146,7 @@ allBytes (a ∷ xs) = answerBytes a ++ allBytes xs
 -- answer i of an answer space
 abbrev pub answerAt : List ℕ → ℕ → List ℕ
 answerAt space i = take 72 (drop (72 * i) space)
+
+-- domain c of an answer: "bytes 8 to 71 sixteen domains of 32 bits"
+abbrev pub domainIn : List ℕ → ℕ → ℕ
+domainIn a c = wordAt a (8 + 4 * c)

@@ -2,10 +2,11 @@
 use mathlib.Core.Path.{_≡_}
 use mathlib.Core.Bool.{Bool, true, false, not, _&&_, _||_}
 use mathlib.Core.List.{List, [], _∷_, List·Memᴰ}
-use Prim.Native.Nat.{ℕ, _≤_, _<_}
+use Prim.Native.Nat.{ℕ, _^_, _≤_, _<_}
 use lib.Dec.{eqb}
 use lib.ListN.{length, getD}
-use Rattle.model.specs.Tests.{allIn, anyIn, eqList}
+use Rattle.model.specs.Tests.{allIn, anyIn}
+use Rattle.model.specs.Masks.{bit}
 use Rattle.model.specs.Stores.{has, Within}
 use Rattle.model.specs.Closure.{closureOf}
 use Rattle.model.specs.Choices.{pick, Takes, anyChoice}
@@ -25,9 +26,24 @@ pub record Book : Type 0 where
 abbrev pub columnCount : Book → ℕ
 columnCount b = length (b .counts)
 
+-- the cell x of a row is in the domain d: "A row lies in a box when each of its values is in its column's domain". Whatever looks at a cell goes by this
+abbrev pub inDomain : ℕ → ℕ → Bool
+inDomain x d = bit x d
+
+-- it matches the value v: it is in the domain of v alone
+abbrev pub matches : ℕ → ℕ → Bool
+matches x v = inDomain x (2 ^ v)
+
+-- a row matches the values t, cell by cell
+unfoldable pub rowMatches : List ℕ → List ℕ → Bool
+rowMatches [] [] = true
+rowMatches [] (v ∷ t) = false
+rowMatches (x ∷ r) [] = false
+rowMatches (x ∷ r) (v ∷ t) = matches x v && rowMatches r t
+
 -- the sheet allows the values t in its columns: they form a row. Nothing else looks at rows to say what is allowed
 unfoldable pub allows : Sheet → List ℕ → Bool
-allows s t = anyIn (s .rows) (eqList t)
+allows s t = anyIn (s .rows) (λ r. rowMatches r t)
 
 -- "width k, 1 to 4", "k column numbers below C, each above the one before", "rows n, 0 to 508", "k values, each below its column's V"
 pub record WellFormedSheet (counts : List ℕ) (s : Sheet) : Type 0 where

@@ -43,9 +43,9 @@ lead v none = none
 lead v (some x) = some (v ∷ x)
 
 -- "lowest by column 0, then column 1, and so on": the values of the first column in rising order, and for each the first choice of the rest
-unfoldable pub first : List ℕ → (List ℕ → Bool) → Option (List ℕ)
-first [] p = cond (p []) (some []) none
-first (m ∷ B) p = firstOf 32 (λ v. elim (bit v m) [ true ↦ lead v (first B (λ x. p (v ∷ x))) | false ↦ none ])
+unfoldable pub firstChoice : List ℕ → (List ℕ → Bool) → Option (List ℕ)
+firstChoice [] p = cond (p []) (some []) none
+firstChoice (m ∷ B) p = firstOf 32 (λ v. elim (bit v m) [ true ↦ lead v (firstChoice B (λ x. p (v ∷ x))) | false ↦ none ])
 
 -- some choice passes
 unfoldable pub anyChoice : List ℕ → (List ℕ → Bool) → Bool

@@ -8,34 +8,42 @@ use mathlib.Core.Option.{none, some}
 use mathlib.Core.List.{List, [], _∷_, map}
 use Prim.Native.Nat.{ℕ, _+_, _^_, _≤_, _<_}
 use lib.Dec.{eqb}
+use Rattle.fields.specs.Bytes.{byteAt}
 use Rattle.model.specs.Tests.{oneIf, tab}
 use Rattle.model.specs.Stores.{has, Within, emptyStore}
 use Rattle.model.specs.Books.{Book, columnCount, WellFormed, Stays, Fails}
 use Rattle.model.specs.Solutions.{Solution, FirstSolution, NoSolution, firstSolution}
 use Rattle.model.specs.Search.{searchSolution}
-use Rattle.model.specs.Orders.{byte, kind, argument, mask, nonzero, Entry, depth, refusal, push, allowed, domains}
-use Rattle.model.specs.Answers.{statusOf, Answer, showing, answer, opening, answersFrom, acceptedCount, answerBytes}
+use Rattle.model.specs.Orders.{kind, argument, mask, zeroPlaces, someWrong, Entry, narrowed, checkpoint, refusal, AcceptedFinish, push, allowed, domains}
+use Rattle.model.specs.Answers.{statusOf, Answer, stateOnly, showing, answer, opening, answersFrom, acceptedCount, answerBytes}
 
 -- ---- demand 1: orders over the book b
 -- "a refused order changes no domain or mark", for the whole trail stays; and "A refused order shows the unchanged state"
 pub record ChangesNothing (b : Book) (L : List Entry) (o : List ℕ) : Type 0 where
   pub same-trail : push b L o ≡ L
-  pub shows : answer b L o ≡ showing b L (refusal b L o)
+  pub shows : answer b L o ≡ showing b L (refusal b L o) stateOnly
 
 -- how many answers have 0 as their refusal
 unfoldable pub unrefused : List Answer → ℕ
 unrefused [] = 0
 unrefused (a ∷ rest) = oneIf (eqb (a .refused) 0) + unrefused rest
 
+-- the trail with every mask left out: what stands, and in which order
+unfoldable pub unmasked : List Entry → List Entry
+unmasked [] = []
+unmasked (narrowed c m ∷ L) = narrowed c 0 ∷ unmasked L
+unmasked (checkpoint ∷ L) = checkpoint ∷ unmasked L
+
 pub record Demand1 (b : Book) : Type 0 where
   -- "a refused order changes no domain or mark"
   pub refused : (L : List Entry) (o : List ℕ) → (refusal b L o ≡ 0 → ⊥) → ChangesNothing b L o
-  -- "Being dead is never a cause of refusal: a dead session gives the same refusals as an open one": of what stands, the depth counts alone
-  pub by-depth : (L M : List Entry) (o : List ℕ) → depth L ≡ depth M → refusal b L o ≡ refusal b M o
+  -- "An order's refusal goes by its bytes, the book and this list only." So `refusal` takes nothing else, and of the list the values that its
+  -- narrows leave do not count: "Being dead is never a cause of refusal: a dead session gives the same refusals as an open one"
+  pub by-list : (L M : List Entry) (o : List ℕ) → unmasked L ≡ unmasked M → refusal b L o ≡ refusal b M o
   -- "mask 0 is accepted": it is no cause
-  pub mask-0 : (L : List Entry) (o : List ℕ) → kind o ≡ 1 → nonzero 2 2 o ≡ false → argument o < columnCount b → mask o ≡ 0 → refusal b L o ≡ 0
+  pub mask-0 : (L : List Entry) (o : List ℕ) → kind o ≡ 1 → someWrong (zeroPlaces 1) o ≡ false → argument o < columnCount b → mask o ≡ 0 → refusal b L o ≡ 0
   -- "byte 0 the refusal or 0"
-  pub byte-0 : (L : List Entry) (o : List ℕ) → byte (answerBytes (answer b L o)) 0 ≡ refusal b L o
+  pub byte-0 : (L : List Entry) (o : List ℕ) → byteAt (answerBytes (answer b L o)) 0 ≡ refusal b L o
   -- "Accepted: the number of accepted orders": as many as answers after the opening have no refusal
   pub counted : (os : List (List ℕ)) → acceptedCount b os ≡ unrefused (answersFrom b [] os)
 
@@ -73,8 +81,8 @@ pub record ShowsFinish (b : Book) (L : List Entry) (a : Answer) : Type 0 where
 -- "at every answer": the opening, any order but an accepted finish, and an accepted finish
 pub record EveryAnswer (b : Book) : Type 0 where
   pub opened : ShowsState b [] (opening b)
-  pub ordered : (L : List Entry) (o : List ℕ) → (kind o ≡ 4 → refusal b L o ≡ 0 → ⊥) → ShowsState b (push b L o) (answer b L o)
-  pub finished : (L : List Entry) (o : List ℕ) → kind o ≡ 4 → refusal b L o ≡ 0 → ShowsFinish b L (answer b L o)
+  pub ordered : (L : List Entry) (o : List ℕ) → (AcceptedFinish b L o → ⊥) → ShowsState b (push b L o) (answer b L o)
+  pub finished : (L : List Entry) (o : List ℕ) → AcceptedFinish b L o → ShowsFinish b L (answer b L o)
   -- "mask 0 is accepted and makes the session dead"; that it is accepted: `Demand1 .mask-0`
   pub mask-0 : (L : List Entry) (o : List ℕ) → kind o ≡ 1 → refusal b L o ≡ 0 → mask o ≡ 0 → Fails b (allowed b (push b L o))
 
@@ -89,10 +97,10 @@ Narrower b L M = Within (allowed b L) (allowed b M)
 
 -- two answers to a finish "agree in bytes 1, 3, 4 and 8 to 71"
 pub record SameFinish (a d : List ℕ) : Type 0 where
-  pub byte-1 : byte a 1 ≡ byte d 1
-  pub byte-3 : byte a 3 ≡ byte d 3
-  pub byte-4 : byte a 4 ≡ byte d 4
-  pub bytes-8-to-71 : (i : ℕ) → 8 ≤ i → i ≤ 71 → byte a i ≡ byte d i
+  pub byte-1 : byteAt a 1 ≡ byteAt d 1
+  pub byte-3 : byteAt a 3 ≡ byteAt d 3
+  pub byte-4 : byteAt a 4 ≡ byteAt d 4
+  pub bytes-8-to-71 : (i : ℕ) → 8 ≤ i → i ≤ 71 → byteAt a i ≡ byteAt d i
 
 -- ---- the claims
 abbrev pub Claim1 : Type 0

@@ -1,36 +1,47 @@
 -- Orders, their refusals, and the trail (document 01: standing list): what stands, "from the book and the orders alone".
+use mathlib.Core.Path.{_≡_}
 use mathlib.Core.Bool.{Bool, true, not, cond, _&&_, _||_}
 use mathlib.Core.List.{List, [], _∷_, _++_}
-use Prim.Native.Nat.{ℕ, zero, suc, _+_, _*_}
+use Prim.Native.Nat.{ℕ, zero, suc}
 use lib.Dec.{eqb, ltb, leb}
 use lib.ListN.{getD}
+use Rattle.fields.specs.Bytes.{byteAt, wordAt}
 use Rattle.model.specs.Tests.{anyBelow}
 use Rattle.model.specs.Masks.{bit}
 use Rattle.model.specs.Stores.{storeOf}
 use Rattle.model.specs.Books.{Book, columnCount, closure}
 
 -- ---- an order is its 8 bytes: "byte 0 kind, byte 1 argument, bytes 2, 3 zero, bytes 4 to 7 a mask"
-abbrev pub byte : List ℕ → ℕ → ℕ
-byte o i = getD o i 0
-
 abbrev pub kind : List ℕ → ℕ
-kind o = byte o 0
+kind o = byteAt o 0
 
 abbrev pub argument : List ℕ → ℕ
-argument o = byte o 1
+argument o = byteAt o 1
 
--- "fields of several bytes have the lowest byte first"
 abbrev pub mask : List ℕ → ℕ
-mask o = byte o 4 + 256 * byte o 5 + 65536 * byte o 6 + 16777216 * byte o 7
-
--- one of the n bytes from k on is not zero
-unfoldable pub nonzero : ℕ → ℕ → List ℕ → Bool
-nonzero k n o = anyBelow n (λ i. not (eqb (byte o (k + i)) 0))
+mask o = wordAt o 4
 
 -- the one of five that goes with the kind: narrow 1, mark 2, back 3, finish 4, any other
 abbrev pub byKind : {A : Type 0} → ℕ → A → A → A → A → A → A
 byKind k narrow mark back finish other =
     cond (eqb k 1) narrow (cond (eqb k 2) mark (cond (eqb k 3) back (cond (eqb k 4) finish other)))
+
+-- the places of an order that must be zero, bit i for byte i: "byte 2 or 3", "any of bytes 1 to 7", "any of bytes 2 to 7", "any of bytes 1 to 7"
+--
+--     byte      0  1  2  3  4  5  6  7
+--     narrow    .  .  0  0  .  .  .  .     4 + 8
+--     mark      .  0  0  0  0  0  0  0     2 + 4 + .. + 128
+--     back      .  .  0  0  0  0  0  0     4 + 8 + .. + 128
+--     finish    .  0  0  0  0  0  0  0     2 + 4 + .. + 128
+abbrev pub zeroPlaces : ℕ → ℕ
+zeroPlaces k = byKind k 12 254 252 254 0
+
+-- byte i is at one of these places, and isn't zero
+unfoldable pub wrongPlace : ℕ → List ℕ → ℕ → Bool
+wrongPlace places o i = bit i places && not (eqb (byteAt o i) 0)
+
+unfoldable pub someWrong : ℕ → List ℕ → Bool
+someWrong places o = anyBelow 8 (wrongPlace places o)
 
 -- ---- the trail
 -- what stands: a narrow of a column to a mask, or a checkpoint (document 01: bar)
@@ -66,37 +77,38 @@ firstCause ((refuse n if t) ∷ cs) = cond t n (firstCause cs)
 unfoldable pub outside : Book → ℕ → ℕ → Bool
 outside b c m = anyBelow 32 (λ v. leb (getD (b .counts) c 0) v && bit v m)
 
--- "Refused with 25 if byte 2 or 3 isn't zero, 21 if the column isn't below C, 22 if a mask bit at or above V is set"
+-- a narrow: "21 if the column isn't below C, 22 if a mask bit at or above V is set"
 abbrev pub narrowCauses : Book → List ℕ → List Cause
-narrowCauses b o =
-    (refuse 25 if nonzero 2 2 o)
-    ∷ (refuse 21 if leb (columnCount b) (argument o))
-    ∷ (refuse 22 if outside b (argument o) (mask o))
-    ∷ []
+narrowCauses b o = (refuse 21 if leb (columnCount b) (argument o)) ∷ (refuse 22 if outside b (argument o) (mask o)) ∷ []
 
--- "Refused with 25 if any of bytes 1 to 7 isn't zero, 23 if depth is 16"
-abbrev pub markCauses : List Entry → List ℕ → List Cause
-markCauses L o = (refuse 25 if nonzero 1 7 o) ∷ (refuse 23 if eqb (depth L) 16) ∷ []
+-- a mark: "23 if depth is 16"
+abbrev pub markCauses : ℕ → List Cause
+markCauses d = (refuse 23 if eqb d 16) ∷ []
 
--- "Byte 1 is m. Refused with 25 if any of bytes 2 to 7 isn't zero, 24 if m is 0 or above the depth"
-abbrev pub backCauses : List Entry → List ℕ → List Cause
-backCauses L o = (refuse 25 if nonzero 2 6 o) ∷ (refuse 24 if eqb (argument o) 0 || ltb (depth L) (argument o)) ∷ []
+-- a back: "Byte 1 is m. … 24 if m is 0 or above the depth"
+abbrev pub backCauses : ℕ → List ℕ → List Cause
+backCauses d o = (refuse 24 if eqb (argument o) 0 || ltb d (argument o)) ∷ []
 
--- "Refused with 25 if any of bytes 1 to 7 isn't zero"
-abbrev pub finishCauses : List ℕ → List Cause
-finishCauses o = (refuse 25 if nonzero 1 7 o) ∷ []
-
--- "Other kinds are refused with 20"
+-- "Other kinds are refused with 20, before the rest": of their bytes none is looked at
 abbrev pub otherCauses : List Cause
 otherCauses = (refuse 20 if true) ∷ []
 
--- "An order's refusal goes by its bytes, the book and this list only": the number, or 0 where the order is accepted
+-- "An order's refusal goes by its bytes, the book and this list only": the number, or 0 where the order is accepted. Each of the four kinds is first
+-- "Refused with 25 if" a byte that must be zero "isn't zero"; a finish has no other cause
 unfoldable pub refusal : Book → List Entry → List ℕ → ℕ
-refusal b L o = firstCause (byKind (kind o) (narrowCauses b o) (markCauses L o) (backCauses L o) (finishCauses o) otherCauses)
+refusal b L o =
+    firstCause
+    ((refuse 25 if someWrong (zeroPlaces (kind o)) o)
+    ∷ byKind (kind o) (narrowCauses b o) (markCauses (depth L)) (backCauses (depth L) o) [] otherCauses)
 
 -- the order is accepted
 abbrev pub isAccepted : Book → List Entry → List ℕ → Bool
 isAccepted b L o = eqb (refusal b L o) 0
+
+-- "an accepted finish"
+pub record AcceptedFinish (b : Book) (L : List Entry) (o : List ℕ) : Type 0 where
+  pub of-kind : kind o ≡ 4
+  pub accepted : refusal b L o ≡ 0
 
 -- ---- what an order makes of the trail
 -- "an accepted narrow joins its end; a mark adds a bar; back m cuts away bar m and all after it; any other order … does nothing"

@@ -41,3 +41,11 @@ searchFrom b (suc k) D =
 -- each value that is set leaves fewer values, so their number is depth enough
 unfoldable pub searchSolution : Book → List ℕ → Option (List ℕ)
 searchSolution b D = searchFrom b (suc (values (columnCount b) D)) D
+
+-- what the search of a store comes to
+pub record Searched : Type 0 where
+  -- the first solution, or none
+  pub solution : Option (List ℕ)
+
+abbrev pub searched : Book → List ℕ → Searched
+searched b D = record { solution = searchSolution b D }

@@ -8,7 +8,7 @@ use Prim.Native.Nat.{ℕ, _<_}
 use lib.ListN.{length, getD}
 use Rattle.model.specs.Tests.{allIn}
 use Rattle.model.specs.Stores.{has}
-use Rattle.model.specs.Choices.{pick, Lower, first}
+use Rattle.model.specs.Choices.{pick, Lower, firstChoice}
 use Rattle.model.specs.Books.{Sheet, Book, columnCount, allows}
 
 -- a solution in B: "A full set takes one value of each current domain, and its values in each sheet's columns form a row"
@@ -33,4 +33,4 @@ formsRows b x = allIn (b .sheets) (λ s. allows s (pick x (s .columns)))
 
 -- the first solution in B, or none: that it is `FirstSolution` is `Demand2 .found` and `.not-found` (Demands)
 unfoldable pub firstSolution : Book → List ℕ → Option (List ℕ)
-firstSolution b B = first B (formsRows b)
+firstSolution b B = firstChoice B (formsRows b)

@@ -9,7 +9,7 @@ use lib.Dec.{ltb}
 use lib.ListN.{length, getD}
 use Rattle.model.specs.Masks.{maskOf}
 use Rattle.model.specs.Stores.{has, IsStore}
-use Rattle.model.specs.Books.{Sheet, Book, columnCount, WellFormed, closure}
+use Rattle.model.specs.Books.{Sheet, Book, columnCount, WellFormed, closure, inDomain}
 use Rattle.model.specs.Orders.{Entry, domains}
 
 -- "A row lies in a box when each of its values is in its column's domain": one value for each of these columns
@@ -17,7 +17,7 @@ unfoldable pub valid : List ℕ → List ℕ → List ℕ → Bool
 valid D [] [] = true
 valid D [] (v ∷ r) = false
 valid D (c ∷ cs) [] = false
-valid D (c ∷ cs) (v ∷ r) = has D c v && valid D cs r
+valid D (c ∷ cs) (x ∷ r) = inDomain x (getD D c 0) && valid D cs r
 
 -- row r of the sheet is valid in D. Formula (3.1) of document 000: i ∈ currTable ⇔ ∀ x ∈ scp(c) : τ_i[x] ∈ dom(x)
 unfoldable pub validRow : List ℕ → Sheet → ℕ → Bool
@@ -63,7 +63,7 @@ pub record Indexed (index : ℕ → ℕ) (n : ℕ) (word : ℕ → ℕ) : Type 0
 
 -- ---- "eight 64-bit words for each sheet, held with the domains"
 --
---     words   | sheet 0: 8 words | sheet 1: 8 words | ..      index   | sheet 0: 8 positions | sheet 1: 8 positions | ..
+--     valid   | sheet 0: 8 words | sheet 1: 8 words | ..      index   | sheet 0: 8 positions | sheet 1: 8 positions | ..
 --
 -- entry i of sheet s in an array with eight for each sheet
 abbrev pub ofSheet : List ℕ → ℕ → ℕ → ℕ
@@ -76,16 +76,16 @@ sheetAt b s = getD (b .sheets) s (record { columns = []; rows = [] })
 -- a state: "arrays of live-row words, index positions, limits and domains"; a limit is held as the number of words that are not zero, which is
 -- one more
 pub record Arrays : Type 0 where
-  pub doms : List ℕ
-  pub words : List ℕ
+  pub dom : List ℕ
+  pub valid : List ℕ
   pub index : List ℕ
   pub nonzero : List ℕ
 
 -- the state of a store D: its domains, its valid rows, and an index of their words
 pub record StateOf (b : Book) (D : List ℕ) (a : Arrays) : Type 0 where
-  pub domain : (c : ℕ) → getD (a .doms) c 0 ≡ getD D c 0
-  pub rows : (s w : ℕ) → s < length (b .sheets) → w < 8 → ofSheet (a .words) s w ≡ validWord D (sheetAt b s) w
-  pub indexed : (s : ℕ) → s < length (b .sheets) → Indexed (ofSheet (a .index) s) (getD (a .nonzero) s 0) (ofSheet (a .words) s)
+  pub domain : (c : ℕ) → getD (a .dom) c 0 ≡ getD D c 0
+  pub rows : (s w : ℕ) → s < length (b .sheets) → w < 8 → ofSheet (a .valid) s w ≡ validWord D (sheetAt b s) w
+  pub indexed : (s : ℕ) → s < length (b .sheets) → Indexed (ofSheet (a .index) s) (getD (a .nonzero) s 0) (ofSheet (a .valid) s)
 
 -- "its domains … and live rows are those of the standing list and its index keeps the invariant above"
 abbrev pub StateHolds : Book → List Entry → Arrays → Type 0

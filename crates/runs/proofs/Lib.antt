@@ -1,6 +1,4 @@
--- The laws behind a run: spaces, a list on its way, answers read back from bytes, the promises, and two lists compared.
+-- The laws behind a run: spaces, the number and the space of a run, and a list on its way.
 pub mod Spaces
 pub mod Runs
-pub mod Reading
-pub mod Promises
-pub mod Comparisons
+pub mod Results

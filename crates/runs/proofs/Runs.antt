@@ -1,41 +1,50 @@
 -- Laws of a list on its way. Assumes nothing.
--- ---- how many, and the last
 use mathlib.Core.Path.{_∙_, _≡_, ap, refl, subst, sym}
-use mathlib.Core.Bool.{Bool, _&&_, _||_, cond, false, false≢true, true}
+use mathlib.Core.Bool.{Bool, cond, false, false≢true, true}
 use mathlib.Core.Logic.{_⊎_, inl, inr}
 use mathlib.Core.Option.{Option, none, some}
 use mathlib.Core.List.{List, [], _++_, _∷_}
-use Prim.Native.Nat.{_*_, _+_, _-_, _/_, _<_, _≤_, suc, zero, ℕ}
+use Prim.Native.Nat.{_*_, _+_, _/_, _<_, _≤_, suc, zero, ℕ}
 use native.Mathlib.Omega.{arith}
-use lib.Dec.{eqb, leb, ltb}
+use lib.Dec.{eqb, leb}
 use lib.ListN.{List·getD-append, getD, length}
 use lib.Seq.{getD-at}
-use borrow.Author.Tests.{eq-eqb, eqb-false, eqb-true, le-leb, lt-leb, ne-eqb}
-use Rattle.model.specs.Answers.{Answer, acceptedCount, acceptedFrom, allBytes, answer, answerAt, answerBytes, answers, answersFrom, finishing, lastAnswer, lastFrom, opening, outcomeOf, showing, solutionMasks}
+use borrow.Author.Tests.{eq-eqb, le-leb, lt-leb, ne-eqb}
+use Rattle.fields.specs.Bytes.{over}
+use Rattle.model.specs.Answers.{Answer, acceptedCount, acceptedFrom, allBytes, answer, answerAt, answerBytes, answers, answersFrom, finishOutcome, lastAnswer, lastFrom, opening, outcome, outcomeMasks, outcomeNumber, showing, stateOnly}
 use Rattle.model.specs.Books.{Book, columnCount}
-use Rattle.model.specs.Orders.{Entry, argument, depth, domains, isAccepted, kind, mask, nonzero, outside, push, refusal, trail, trailFrom}
+use Rattle.model.specs.Orders.{Entry, depth, domains, isAccepted, kind, push, trail, trailFrom}
+use Rattle.model.specs.Search.{searchSolution}
 use Rattle.model.specs.Solutions.{firstSolution}
 use Rattle.model.specs.Tests.{oneIf, tab}
-use Rattle.model.proofs.Demands.{answer-finish, answer-other}
-use Rattle.model.proofs.Refusals.{push-finish, refusal-back, refusal-finish, refusal-mark, refusal-narrow, refusal-other}
-use Rattle.model.proofs.Tests.{and-i, and-l, and-r, below, either, getD-tab, length-tab}
-use Rattle.model.proofs.Trails.{accepted-snoc, answers-snoc, trail-snoc}
+use Rattle.model.proofs.Answers.{domainBytes-same, outcome-finish, outcome-other}
+use Rattle.model.proofs.Refusals.{push-finish, refusal-small}
+use Rattle.model.proofs.Search.{search-first}
+use Rattle.model.proofs.Tests.{below, getD-tab, length-tab}
+use Rattle.model.proofs.Trails.{accepted-snoc, answers-snoc, domains-closed, domains-store, trail-snoc}
 use Rattle.book.specs.Decoding.{bookOf}
-use Rattle.book.specs.Head.{columnsOf}
+use Rattle.book.specs.Heads.{columnsOf}
+use Rattle.book.specs.Verdicts.{Accepted}
+use Rattle.book.proofs.Decoding.{accepted-right, right-formed}
 use Rattle.engine.specs.Holds.{Holds, Refuses, Stepped}
 use Rattle.engine.specs.Lists.{orderAt, ordersOf, ordersTo}
+use Rattle.engine.specs.Sessions.{StateIs}
 use Rattle.engine.specs.declared.session.Session.{Session}
 use Rattle.engine.specs.declared.state.State.{State}
 use Rattle.engine.proofs.Lists.{orders-more, tab-last}
-use Rattle.engine.proofs.Turns.{columns-count}
-use Rattle.search.specs.Searches.{Finishes, isFound}
+use Rattle.engine.proofs.Propagation.{columns-count}
+use Rattle.search.specs.Searches.{Finishes, isFound, solutionMasks}
 use Rattle.search.specs.declared.Found.{Found}
-use Rattle.answers.specs.Parts.{finishAnswer, over, stateAnswer}
-use Rattle.answers.proofs.States.{finish-answer, state-answer}
-use Rattle.runs.specs.Runs.{AnswersAt, FinishesAt, Led, RanTo, ShowsAt}
+use Rattle.status.specs.Status.{Summarises}
+use Rattle.status.specs.declared.Summary.{Summary}
+use Rattle.answers.specs.Answers.{answerIn}
+use Rattle.answers.specs.declared.Answer.{Answer as Written}
+use Rattle.runs.specs.Runs.{AnswersAt, Led, OutcomeIs, RanTo, ShowsAt, ShowsBesides, ShowsFound}
 use Rattle.runs.specs.Spaces.{Adds, written}
+use Rattle.runs.specs.declared.shown.Outcome.{Outcome as Held}
 use Rattle.runs.proofs.Spaces.{adds, answer-part, length-written, written-over}
 
+-- ---- how many, and the last
 length-from : (b : Book) (L : List Entry) (os : List (List ℕ)) → length (answersFrom b L os) ≡ length os
 unfolding answersFrom
 length-from b L [] = refl
@@ -81,32 +90,9 @@ unfolding acceptedFrom
 accepted-few b L [] = omega arith
 accepted-few b L (o ∷ os) = omega (arith, one-most (isAccepted b L o), accepted-few b (push b L o) os)
 
--- ---- what the writers ask for
-small-cond : (t : Bool) {x y : ℕ} → x < 256 → y < 256 → cond t x y < 256
-small-cond true l m = l
-small-cond false l m = m
-
--- a refusal fits a byte
-refusal-small : (b : Book) (L : List Entry) (o : List ℕ) → refusal b L o < 256
-refusal-small b L o =
-    go (either (eqb (kind o) 1)) (either (eqb (kind o) 2)) (either (eqb (kind o) 3)) (either (eqb (kind o) 4))
-  where
-    go : (eqb (kind o) 1 ≡ true) ⊎ (eqb (kind o) 1 ≡ false) → (eqb (kind o) 2 ≡ true) ⊎ (eqb (kind o) 2 ≡ false)
-        → (eqb (kind o) 3 ≡ true) ⊎ (eqb (kind o) 3 ≡ false) → (eqb (kind o) 4 ≡ true) ⊎ (eqb (kind o) 4 ≡ false) → refusal b L o < 256
-    go (inl k) p q r =
-        rw (refusal-narrow b L o (eqb-true (kind o) 1 k))
-        (small-cond (nonzero 2 2 o) (omega arith) (small-cond (leb (columnCount b) (argument o)) (omega arith) (small-cond (outside b (argument o) (mask o)) (omega arith) (omega arith))))
-    go (inr k) (inl p) q r =
-        rw (refusal-mark b L o (eqb-true (kind o) 2 p)) (small-cond (nonzero 1 7 o) (omega arith) (small-cond (eqb (depth L) 16) (omega arith) (omega arith)))
-    go (inr k) (inr p) (inl q) r =
-        rw (refusal-back b L o (eqb-true (kind o) 3 q))
-        (small-cond (nonzero 2 6 o) (omega arith) (small-cond (eqb (argument o) 0 || ltb (depth L) (argument o)) (omega arith) (omega arith)))
-    go (inr k) (inr p) (inr q) (inl r) = rw (refusal-finish b L o (eqb-true (kind o) 4 r)) (small-cond (nonzero 1 7 o) (omega arith) (omega arith))
-    go (inr k) (inr p) (inr q) (inr r) =
-        rw (refusal-other b L o (eqb-false (kind o) 1 k) (eqb-false (kind o) 2 p) (eqb-false (kind o) 3 q) (eqb-false (kind o) 4 r)) (omega arith)
-
-pub refuses-small : {b : List ℕ} (x : List ℕ) {L : List Entry} {s : Session} {r : ℕ} → Holds b L s → Refuses b (s .depth) x r → r < 256
-refuses-small {b} x {L} {s} {r} h f = rw (f L (h .deep)) (refusal-small (bookOf b) L x)
+-- ---- what the writer asks for
+pub refuses-small : {b : List ℕ} (x : List ℕ) {L : List Entry} {s : Session} {r : ℕ} → Holds b L s → Refuses b s x r → r < 256
+refuses-small {b} x {L} {s} {r} h f = rw (f L h) (refusal-small (bookOf b) L x)
 
 pub depth-small : {b : List ℕ} {L : List Entry} {s : Session} → Holds b L s → s .depth ≤ 16
 depth-small h = omega (arith, h .few, h .deep)
@@ -118,55 +104,85 @@ counts-one k {r} z = ap (λ (t : Bool). k + oneIf t) (sym (eq-eqb r 0 z))
 pub counts-none : (k : ℕ) {r : ℕ} → (r ≡ 0 → ⊥) → k ≡ k + oneIf (eqb r 0)
 counts-none k {r} z = let e : eqb r 0 ≡ false = ne-eqb r 0 z in rw e (omega arith)
 
+-- ---- what is shown besides the state
+found-number : (o : Option (List ℕ)) → isFound o ≡ true → 1 ≡ outcomeNumber (finishOutcome o)
+found-number (some x) e = refl
+found-number none e = absurd (false≢true e)
+
+none-number : (o : Option (List ℕ)) → isFound o ≡ false → 2 ≡ outcomeNumber (finishOutcome o)
+none-number (some x) e = absurd (false≢true (sym e))
+none-number none e = refl
+
+-- a finish shows no domain
+finish-masks : (C : ℕ) (D : List ℕ) (o : Option (List ℕ)) → solutionMasks C o ≡ outcomeMasks C D (finishOutcome o)
+finish-masks C D (some x) = refl
+finish-masks C D none = refl
+
+module _ {b : List ℕ} {st : State} where
+  -- what the search finds
+  module _ (acc : Accepted b) {g : Found} (h : Finishes b st g) (f : Held) (m : f .masks ≡ g .dom) {L : List Entry} (is : StateIs b L st) where
+    abbrev o : Option (List ℕ)
+    o = firstSolution (bookOf b) (domains (bookOf b) L)
+
+    -- the search finds the first solution
+    first : searchSolution (bookOf b) (domains (bookOf b) L) ≡ firstSolution (bookOf b) (domains (bookOf b) L)
+    first = search-first (bookOf b) (right-formed b (accepted-right b acc)) (domains (bookOf b) L) (domains-store (bookOf b) L) (domains-closed (bookOf b) L)
+
+    masks : (c : ℕ) → c < 16 → getD (f .masks) c 0 ≡ getD (outcomeMasks (columnCount (bookOf b)) (domains (bookOf b) L) (finishOutcome o)) c 0
+    masks c l =
+        ap (λ (D : List ℕ). getD D c 0) (m ∙ h L is .shown)
+        ∙ getD-tab 0 16 (λ c. getD (solutionMasks (columnsOf b) (searchSolution (bookOf b) (domains (bookOf b) L))) c 0) c l
+        ∙ ap (λ (x : Option (List ℕ)). getD (solutionMasks (columnsOf b) x) c 0) first
+        ∙ ap (λ (D : List ℕ). getD D c 0)
+        (ap (λ (C : ℕ). solutionMasks C o) (sym (columns-count b)) ∙ finish-masks (columnCount (bookOf b)) (domains (bookOf b) L) o)
+
+    pub found-is : g .ok ≡ true → f .number ≡ 1 → OutcomeIs b L (finishOutcome o) f
+    found-is t n = record { number = n ∙ found-number o (sym (h L is .ok ∙ ap isFound first) ∙ t); masks = masks }
+
+    pub none-is : g .ok ≡ false → f .number ≡ 2 → OutcomeIs b L (finishOutcome o) f
+    none-is t n = record { number = n ∙ none-number o (sym (h L is .ok ∙ ap isFound first) ∙ t); masks = masks }
+
+  -- the state alone
+  pub state-is : {f : Held} → f .number ≡ 0 → f .masks ≡ st .dom → {L : List Entry} → StateIs b L st → OutcomeIs b L stateOnly f
+  state-is n m h = record { number = n; masks = λ c l. ap (λ (D : List ℕ). getD D c 0) m ∙ h .holds .domain c }
+
+  module _ (x : List ℕ) {r : ℕ} {f : Held} where
+    -- a refused order, and one of another kind
+    pub state-besides : f .number ≡ 0 → f .masks ≡ st .dom → (r ≡ 0 → kind x ≡ 4 → ⊥) → ShowsBesides b x r st f
+    state-besides n m not-finish L e h =
+        rw (outcome-other (bookOf b) L x (λ z. not-finish (e ∙ z .accepted) (z .of-kind))) (state-is n m h)
+
+    pub finish-besides : ShowsFound b st f → r ≡ 0 → kind x ≡ 4 → ShowsBesides b x r st f
+    finish-besides g z k L e h =
+        let p = push-finish (bookOf b) L x k in
+        rw (p, outcome-finish (bookOf b) L x (record { of-kind = k; accepted = sym e ∙ z })) (g L (rw p at h))
+
 -- ---- one answer
-module _ {b : List ℕ} {st : State} (d : ℕ) (i : ℕ) (space : List ℕ) where
-  pub shows-at : (r : ℕ) {space′ : List ℕ} → space′ ≡ over space (72 * i) (answerBytes (stateAnswer b (st .dom) r d)) → ShowsAt b st d r i space space′
-  shows-at r {space′} e L h q =
-      rw e
-      (subst (λ (a : Answer). Adds i (showing (bookOf b) L r) space (over space (72 * i) (answerBytes a))) (sym (state-answer h r q))
-      (adds i (showing (bookOf b) L r) space))
-
-  pub finishes-at : {f : Found} {space′ : List ℕ} → Finishes b st f → space′ ≡ over space (72 * i) (answerBytes (finishAnswer b (st .dom) d (f .ok) (f .dom)))
-      → FinishesAt b st d i space space′
-  finishes-at {f} {space′} g e L h q =
-      let o = firstSolution (bookOf b) (domains (bookOf b) L) in
-      rw (e, finish-answer h (f .ok) (f .dom) q (ap (λ (t : Bool). cond t 1 2) (g L h .ok) ∙ outcome o) (shown o (g L h .shown)))
-      (adds i (finishing (bookOf b) L) space)
-    where
-      outcome : (o : Option (List ℕ)) → cond (isFound o) 1 2 ≡ outcomeOf o
-      outcome none = refl
-      outcome (some x) = refl
-
-      shown : (o : Option (List ℕ)) → f .dom ≡ tab 16 (λ c. getD (solutionMasks (columnsOf b) o) c 0)
-          → (c : ℕ) → c < 16 → getD (f .dom) c 0 ≡ getD (solutionMasks (columnCount (bookOf b)) o) c 0
-      shown o y c l =
-          rw (y, columns-count b) (getD-tab 0 16 (λ c. getD (solutionMasks (columnsOf b) o) c 0) c l)
-
--- what an order's writer ensures, of the answer to it: whatever trail stood before the order
-pub order-adds : {b : List ℕ} {s t : Session} (x : List ℕ) {r : ℕ} (i : ℕ) (space : List ℕ) {space′ : List ℕ} → Refuses b (s .depth) x r → Stepped b s x t
-    → AnswersAt b x r (t .now) (t .depth) i space space′ → (L : List Entry) → Holds b L s → Adds i (answer (bookOf b) L x) space space′
-order-adds {b} {s} {t} x {r} i space {space′} f g w L h = go (either (eqb (kind x) 4 && isAccepted (bookOf b) L x))
+-- the answer that the code holds has the bytes of the model's
+pub shows-at : {b : List ℕ} {st : State} {d r : ℕ} {f : Held} (i : ℕ) (space : List ℕ) {s : Summary} {a : Written} {space′ : List ℕ}
+    → Summarises b st s
+    → answerIn a ≡ record { refused = r; status = s .status; depth = d; outcome = f .number; done = s .done; shown = f .masks }
+    → space′ ≡ over space (72 * i) (answerBytes (answerIn a)) → ShowsAt b st d r f i space space′
+unfolding showing answerBytes
+shows-at {b} {st} {d} {r} {f} i space {s} {a} {space′} g q e L x h dd k =
+    rw e
+    (subst (λ (l : List ℕ). Adds i (showing (bookOf b) L r x) space (over space (72 * i) l)) (sym same)
+    (adds i (showing (bookOf b) L r x) space))
   where
-    refuses : r ≡ refusal (bookOf b) L x
-    refuses = f L (h .deep)
+    same : answerBytes (answerIn a) ≡ answerBytes (showing (bookOf b) L r x)
+    same =
+        ap answerBytes q
+        ∙ rw (g L h .status, g L h .done, dd, k .number, domainBytes-same (f .masks) (outcomeMasks (columnCount (bookOf b)) (domains (bookOf b) L) x) 16 (k .masks)) refl
 
-    after : Holds b (push (bookOf b) L x) t
-    after = g .holds L h
+pub answers-order : {b : List ℕ} {st : State} {d r : ℕ} {f : Held} (x : List ℕ) (i : ℕ) (space : List ℕ) {space′ : List ℕ}
+    → ShowsBesides b x r st f → ShowsAt b st d r f i space space′ → AnswersAt b x r st d i space space′
+unfolding answer
+answers-order {b} {st} {d} {r} {f} x i space g w L e h q = rw e at (w (push (bookOf b) L x) (outcome (bookOf b) L x) h q (g L e h))
 
-    go : ((eqb (kind x) 4 && isAccepted (bookOf b) L x) ≡ true) ⊎ ((eqb (kind x) 4 && isAccepted (bookOf b) L x) ≡ false) → Adds i (answer (bookOf b) L x) space space′
-    go (inl e) =
-        let k : kind x ≡ 4 = eqb-true (kind x) 4 (and-l _ _ e) in
-        let z : r ≡ 0 = refuses ∙ eqb-true (refusal (bookOf b) L x) 0 (and-r (eqb (kind x) 4) _ e) in
-        rw (answer-finish (bookOf b) L x e) (rw (push-finish (bookOf b) L x k) at (w .finish z k (push (bookOf b) L x) (after .current) (after .deep)))
-    go (inr e) =
-        rw (answer-other (bookOf b) L x e)
-        (rw refuses at
-        (w .other (λ z k. false≢true (sym e ∙ and-i (eq-eqb (kind x) 4 k) (eq-eqb (refusal (bookOf b) L x) 0 (sym refuses ∙ z)))) (push (bookOf b) L x) (after .current) (after .deep)))
-
-pub opened-at : {b : List ℕ} {s : Session} (space : List ℕ) {space′ : List ℕ} → Holds b [] s → ShowsAt b (s .now) 0 0 0 space space′
-    → Adds 0 (opening (bookOf b)) space space′
+pub opened-at : {b : List ℕ} {s : Session} {f : Held} (space : List ℕ) {space′ : List ℕ} → Holds b [] s → f .number ≡ 0 → f .masks ≡ s .now .dom
+    → ShowsAt b (s .now) 0 0 f 0 space space′ → Adds 0 (opening (bookOf b)) space space′
 unfolding depth
-opened-at space h w = w [] (h .current) refl
+opened-at space h n m w = w [] stateOnly (h .current) refl (state-is n m (h .current))
 
 -- ---- from the opening on
 module _ (b o old : List ℕ) where
@@ -214,7 +230,7 @@ module _ (b o old : List ℕ) where
 
   -- one order more
   module _ {n k : ℕ} {s : Session} {space x : List ℕ} (e : x ≡ orderAt o n) (room : 72 * (n + 1) + 72 ≤ length old) (h : RanTo b o old n s k space)
-      {r : ℕ} (f : Refuses b (s .depth) x r) where
+      {r : ℕ} (f : Refuses b s x r) where
     pub more : {t : Session} {j : ℕ} {space′ : List ℕ} → Stepped b s x t → j ≡ k + oneIf (eqb r 0) → AnswersAt b x r (t .now) (t .depth) (n + 1) space space′
         → RanTo b o old (n + 1) t j space′
     more {t} {j} {space′} g c w = record {
@@ -222,14 +238,17 @@ module _ (b o old : List ℕ) where
       holds = rw (orders-more o n, trail-snoc bk [] (ordersTo o n) (orderAt o n), ← e) (g .holds _ (h .holds));
       counts =
           c
-          ∙ ap (λ (i : ℕ). k + oneIf (eqb i 0)) (rw e at (f (T n) (h .holds .deep)))
+          ∙ ap (λ (i : ℕ). k + oneIf (eqb i 0)) (rw e at (f (T n) (h .holds)))
           ∙ ap (λ (i : ℕ). i + oneIf (isAccepted bk (T n) (orderAt o n))) (h .counts)
           ∙ sym (accepted-snoc bk [] (ordersTo o n) (orderAt o n))
           ∙ ap (acceptedCount bk) (sym (orders-more o n));
       wrote =
           subst (λ (l : List Answer). space′ ≡ written l old) (sym (answers-more bk o n))
-          ((rw e at (order-adds x (n + 1) space f g w (T n) (h .holds))) (answers bk (ordersTo o n)) old (length-answers bk o n) room (h .wrote));
+          ((rw e at (w (T n) (f (T n) (h .holds)) (after .current) (after .deep))) (answers bk (ordersTo o n)) old (length-answers bk o n) room (h .wrote));
     }
+      where
+        after : Holds b (push bk (T n) x) t
+        after = g .holds (T n) (h .holds)
 
   -- ---- whole lists
   -- the space after the opening stands for the one before it

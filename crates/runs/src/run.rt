@@ -1,14 +1,19 @@
 // The run of a list: any bytes as book and orders, any answer space.
 use crate::shown::*;
-use book::fields::wide;
 use engine::layout::*;
 use engine::orders::*;
 use engine::session::*;
+use fields::wide;
 ghost use mathlib.Core.Path.{_≡_};
 ghost use Prim.Native.Nat.{_+_, _*_, _/_, _<_};
 ghost use lib.ListN.{length};
 ghost use Rattle.runs.specs.Results.{wrongList, RightInput, runResult, runSpace};
 ghost use Rattle.runs.specs.Runs.{RanTo};
+
+// Refusals 10 and 11, times 65,536.
+const WRONG_LIST: u64 = 655360;
+
+const SHORT_SPACE: u64 = 720896;
 
 // What is left when every order has been run: how many were accepted, and the session.
 pub struct Ran {
@@ -22,10 +27,10 @@ pub fn run_orders(book: &[u8], orders: &[u8], answers: &mut [u8]) -> Ran
     requires { ⌜ RightInput (now book) (now orders) (length (now answers)) ⌝ }
     ensures { λ r. ⌜ RanTo (now (book .entry)) (now (orders .entry)) (now (answers .entry)) (length (now (orders .entry)) / 8) (r .session) (r .accepted) (now (answers .exit)) ⌝ }
 {
-    let mut first = [0usize; 8];
-    let mut mask = [0u32; 8];
-    lay_out(book, &mut first, &mut mask);
-    let mut s = opened(answers, book, &first, &mask);
+    let mut begins = [0usize; 8];
+    let mut scopes = [0u32; 8];
+    lay_out(book, &mut begins, &mut scopes);
+    let mut s = opened(answers, book, &begins, &scopes);
     let mut accepted: u64 = 0;
     let mut i: usize = 0;
     while i < orders.len() / 8 {
@@ -36,14 +41,14 @@ pub fn run_orders(book: &[u8], orders: &[u8], answers: &mut [u8]) -> Ran
         if r == 0 {
             accepted += 1;
             if order[0] == 1 {
-                s = s.narrow(book, &first, &mask, wide(order[1]), mask_of(order));
+                s = s.narrow(book, &begins, &scopes, wide(order[1]), mask_of(order));
             } else if order[0] == 2 {
                 s = s.mark();
             } else if order[0] == 3 {
                 s = s.back(wide(order[1]));
             }
         }
-        show_order(answers, i, book, &first, &mask, order, r, s.depth, s.now);
+        show_order(answers, i, book, &begins, &scopes, order, r, s.depth, s.now);
     }
     Ran {
         accepted: accepted,
@@ -70,11 +75,11 @@ pub fn run(book: &[u8], orders: &[u8], answers: &mut [u8]) -> u64
         return verdict;
     }
     if wrong_list(orders) {
-        return 655360;
+        return WRONG_LIST;
     }
     let needed = 72 * (orders.len() / 8 + 1);
     if answers.len() < needed {
-        return 720896 + (needed as u64);
+        return SHORT_SPACE + (needed as u64);
     }
     let r = run_orders(book, orders, answers);
     r.accepted

@@ -1,7 +1,7 @@
 // search: the first full set of a finish, lowest by column 0, then column 1, and so on.
 //
-// Promise: `finish` ensures `Finishes` (specs/Searches.antt): of the state of any trail it gives the first solution in its domains, or none exactly
-// when there is none. It ends, because each value that is set leaves fewer values.
+// Promise: `finish` ensures `Finishes` (specs/Searches.antt): of the state of any trail it gives what document 01's search finds in its domains, which is
+// the first solution, or none exactly when there is none (`search-first`, model). It ends, because each value that is set leaves fewer values.
 //
 //     pick_column    the lowest column with two values or more: its values from the lowest on, each tried
 //     try_value      the column set to one value, the state propagated; where a store is left, the next column is picked
@@ -20,7 +20,7 @@ ghost use Rattle.book.specs.Verdicts.{Accepted};
 ghost use Rattle.engine.specs.Layouts.{LayoutOf};
 ghost use Rattle.engine.specs.Propagation.{isOpen};
 ghost use Rattle.engine.specs.Sessions.{SomeState};
-ghost use Rattle.search.specs.Searches.{FoundIs, solutionIn, solutionAfter, Finishes, FilledState, OpenValue};
+ghost use Rattle.search.specs.Searches.{FoundIs, searchIn, searchAfter, Finishes, FilledState, OpenValue};
 
 // What a search finds: whether there is a solution, and its values, one bit for each column.
 pub struct Found {
@@ -63,15 +63,15 @@ fn lowest_value(d: u32) -> u32
 // The first solution in a state that is not failed.
 fn pick_column(
     book: &[u8],
-    first: &[usize; 8],
-    mask: &[u32; 8],
+    begins: &[usize; 8],
+    scopes: &[u32; 8],
     dom: &[u32; 16],
-    live: &[u64; 64],
+    valid: &[u64; 64],
     index: &[u8; 64],
     nonzero: &[u8; 8],
 ) -> Found
-    requires { ⌜ Accepted (now book) × LayoutOf (now book) (now first) (now mask) × FilledState (now book) (now dom) (now live) (now index) (now nonzero) ⌝ }
-    ensures { λ r. ⌜ FoundIs (now (book .entry)) (solutionIn (now (book .entry)) (now (dom .entry))) r ⌝ }
+    requires { ⌜ Accepted (now book) × LayoutOf (now book) (now begins) (now scopes) × FilledState (now book) (now dom) (now valid) (now index) (now nonzero) ⌝ }
+    ensures { λ r. ⌜ FoundIs (now (book .entry)) (searchIn (now (book .entry)) (now (dom .entry))) r ⌝ }
 {
     let c = open_column(dom);
     if c == 16 {
@@ -82,10 +82,10 @@ fn pick_column(
     while rest != 0 {
         let f = try_value(
             book,
-            first,
-            mask,
+            begins,
+            scopes,
             dom,
-            live,
+            valid,
             index,
             nonzero,
             c,
@@ -102,29 +102,29 @@ fn pick_column(
 // The first solution with the value v in column c, which has two values or more.
 fn try_value(
     book: &[u8],
-    first: &[usize; 8],
-    mask: &[u32; 8],
+    begins: &[usize; 8],
+    scopes: &[u32; 8],
     dom: &[u32; 16],
-    live: &[u64; 64],
+    valid: &[u64; 64],
     index: &[u8; 64],
     nonzero: &[u8; 8],
     c: usize,
     v: u32,
 ) -> Found
-    requires { ⌜ Accepted (now book) × LayoutOf (now book) (now first) (now mask) × FilledState (now book) (now dom) (now live) (now index) (now nonzero) × OpenValue (now book) (now dom) c v ⌝ }
-    ensures { λ r. ⌜ FoundIs (now (book .entry)) (solutionAfter (now (book .entry)) (now (dom .entry)) c v) r ⌝ }
+    requires { ⌜ Accepted (now book) × LayoutOf (now book) (now begins) (now scopes) × FilledState (now book) (now dom) (now valid) (now index) (now nonzero) × OpenValue (now book) (now dom) c v ⌝ }
+    ensures { λ r. ⌜ FoundIs (now (book .entry)) (searchAfter (now (book .entry)) (now (dom .entry)) c v) r ⌝ }
 {
     let column = 1u32 << c;
-    let waiting = engine::worklist::waiting_for(mask, column);
+    let waiting = engine::worklist::waiting_for(scopes, column);
     let mut d = *dom;
-    let mut l = *live;
+    let mut l = *valid;
     let mut x = *index;
     let mut n = *nonzero;
     d[c] = words::bits::only(v);
     if engine::propagate::propagate(
         book,
-        first,
-        mask,
+        begins,
+        scopes,
         waiting,
         column,
         false,
@@ -133,22 +133,22 @@ fn try_value(
         &mut x,
         &mut n,
     ) {
-        return pick_column(book, first, mask, &d, &l, &x, &n);
+        return pick_column(book, begins, scopes, &d, &l, &x, &n);
     }
     nothing()
 }
 
 // A finish of the state of a trail.
-pub fn finish(book: &[u8], first: &[usize; 8], mask: &[u32; 8], st: State) -> Found
-    requires { ⌜ Accepted (now book) × LayoutOf (now book) (now first) (now mask) × SomeState (now book) st ⌝ }
+pub fn finish(book: &[u8], begins: &[usize; 8], scopes: &[u32; 8], st: State) -> Found
+    requires { ⌜ Accepted (now book) × LayoutOf (now book) (now begins) (now scopes) × SomeState (now book) st ⌝ }
     ensures { λ r. ⌜ Finishes (now (book .entry)) st r ⌝ }
 {
     let dom = st.dom;
     if dom[0] == 0 {
         return nothing();
     }
-    let live = st.live;
+    let valid = st.valid;
     let index = st.index;
     let nonzero = st.nonzero;
-    pick_column(book, first, mask, &dom, &live, &index, &nonzero)
+    pick_column(book, begins, scopes, &dom, &valid, &index, &nonzero)
 }

@@ -16,7 +16,7 @@ use borrow.Author.Tests.{eq-eqb, eqb-false, eqb-true, le-ltb, lt-ltb, ltb-true, 
 use Rattle.model.specs.Masks.{Cleared, bit}
 use Rattle.model.proofs.Masks.{bit-and, bit-high, bit-of-zero, bit-or, bit-pow, bit-pow-only}
 use Rattle.model.proofs.Tests.{and-l, and-r, and-true, below, either, or-e, or-l, or-r}
-use Rattle.book.specs.Fields.{byteAt}
+use Rattle.fields.specs.Bytes.{byteAt}
 use Rattle.words.specs.Cells.{Gathered, GatheredNear, GatheredOf, Joined, NearRows, PastRun, Readable, RunOf, SmallSets, cellAt, fourOf, nearPlace}
 use Rattle.words.proofs.Ones.{below-lowest, complement, ones-shifted}
 use Rattle.words.proofs.Walks.{Part, far-bits, four-all, near-bits, near-same, part-cleared, split}
@@ -76,14 +76,14 @@ module _ (cell : ℕ → ℕ → ℕ) {f : List ℕ} where
       new j k l (inl x) = q .old j (cell k j) l (p .new j k l x)
       new j k l (inr x) = q .new j k l x
 
-      first : (j v : ℕ) → (bit v (getD f j 0) ≡ true) ⊎ ((k : ℕ) × (passes k ≡ true) × (cell k j ≡ v))
+      begin : (j v : ℕ) → (bit v (getD f j 0) ≡ true) ⊎ ((k : ℕ) × (passes k ≡ true) × (cell k j ≡ v))
           → (bit v (getD f j 0) ≡ true) ⊎ ((k : ℕ) × (all k ≡ true) × (cell k j ≡ v))
-      first j v (inl x) = inl x
-      first j v (inr (k, x, y)) = inr (k, e k ∙ or-l (passes k) (more k) x, y)
+      begin j v (inl x) = inl x
+      begin j v (inr (k, x, y)) = inr (k, e k ∙ or-l (passes k) (more k) x, y)
 
       second : (j v : ℕ) → j < 4 → (bit v (getD g j 0) ≡ true) ⊎ ((k : ℕ) × (more k ≡ true) × (cell k j ≡ v))
           → (bit v (getD f j 0) ≡ true) ⊎ ((k : ℕ) × (all k ≡ true) × (cell k j ≡ v))
-      second j v l (inl x) = first j v (p .sound j v l x)
+      second j v l (inl x) = begin j v (p .sound j v l x)
       second j v l (inr (k, x, y)) = inr (k, e k ∙ or-r (passes k) (more k) x, y)
 
   -- one row more, by the code's four sets
@@ -227,36 +227,36 @@ run-of word n l e = (few (below 60 n), record { at = λ k m. set k (below k 64) 
     set k (inr q) m = absurd (omega (arith, few (below 60 n)))
 
 -- ---- the whole word
-module _ (b : List ℕ) (first w word : ℕ) (small : w < 8) (fits : word < 2 ^ 64) where
-  pub near-rows : Readable b first (64 * w) word → NearRows b (nearPlace first w) (bitAnd word 1152921504606846975)
+module _ (b : List ℕ) (begin w word : ℕ) (small : w < 8) (fits : word < 2 ^ 64) where
+  pub near-rows : Readable b begin (64 * w) word → NearRows b (nearPlace begin w) (bitAnd word 1152921504606846975)
   near-rows h = record {
     at = λ k e.
         let z = sym (near-bits word k) ∙ e in
         let p = and-l (bit k word) _ z in
         let l = ltb-true k 60 (and-r (bit k word) _ z) in
         record {
-          there = omega (arith, h .there k p, near-same first w k 3 small l);
+          there = omega (arith, h .there k p, near-same begin w k 3 small l);
           value = λ j q.
-              rw (near-same first w k j small l) (h .value k j p q);
+              rw (near-same begin w k j small l) (h .value k j p q);
         };
   }
 
-  to-far : (k j : ℕ) → bit k (bitAnd word 1152921504606846975) ≡ true → byteAt b (nearPlace first w + 4 * k + j) ≡ cellAt b first (64 * w + k) j
+  to-far : (k j : ℕ) → bit k (bitAnd word 1152921504606846975) ≡ true → byteAt b (nearPlace begin w + 4 * k + j) ≡ cellAt b begin (64 * w + k) j
   to-far k j e =
       let l = ltb-true k 60 (and-r (bit k word) _ (sym (near-bits word k) ∙ e)) in
-      ap (byteAt b) (near-same first w k j small l)
+      ap (byteAt b) (near-same begin w k j small l)
 
   pub gathered-near : {f g : List ℕ} → bitAnd word 1152921504606846975 ≡ word
-      → GatheredNear b (nearPlace first w) (bitAnd word 1152921504606846975) f g → Gathered b first (64 * w) word f g
+      → GatheredNear b (nearPlace begin w) (bitAnd word 1152921504606846975) f g → Gathered b begin (64 * w) word f g
   gathered-near e h =
-      of-same (λ k j. cellAt b first (64 * w + k) j) (λ k. ap (bit k) e)
-      (of-cells (λ k j. byteAt b (nearPlace first w + 4 * k + j)) (λ k j. cellAt b first (64 * w + k) j) to-far h)
+      of-same (λ k j. cellAt b begin (64 * w + k) j) (λ k. ap (bit k) e)
+      (of-cells (λ k j. byteAt b (nearPlace begin w + 4 * k + j)) (λ k j. cellAt b begin (64 * w + k) j) to-far h)
 
-  pub gathered-both : {f g h : List ℕ} → GatheredNear b (nearPlace first w) (bitAnd word 1152921504606846975) f g
-      → Gathered b first (64 * w) (bitAnd word (18446744073709551615 - 1152921504606846975)) g h → Gathered b first (64 * w) word f h
+  pub gathered-both : {f g h : List ℕ} → GatheredNear b (nearPlace begin w) (bitAnd word 1152921504606846975) f g
+      → Gathered b begin (64 * w) (bitAnd word (18446744073709551615 - 1152921504606846975)) g h → Gathered b begin (64 * w) word f h
   gathered-both p q =
-      of-join (λ k j. cellAt b first (64 * w + k) j) (λ k. both k (below k 64))
-      (of-cells (λ k j. byteAt b (nearPlace first w + 4 * k + j)) (λ k j. cellAt b first (64 * w + k) j) to-far p) q
+      of-join (λ k j. cellAt b begin (64 * w + k) j) (λ k. both k (below k 64))
+      (of-cells (λ k j. byteAt b (nearPlace begin w + 4 * k + j)) (λ k j. cellAt b begin (64 * w + k) j) to-far p) q
     where
       both : (k : ℕ) → (k < 64) ⊎ (64 ≤ k)
           → bit k word ≡ (bit k (bitAnd word 1152921504606846975) || bit k (bitAnd word (18446744073709551615 - 1152921504606846975)))

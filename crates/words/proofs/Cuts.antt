@@ -18,7 +18,7 @@ use Rattle.model.specs.Stores.{has}
 use Rattle.model.specs.Tests.{allBelow}
 use Rattle.model.proofs.Masks.{bit-below, bit-of-zero, some-bit}
 use Rattle.model.proofs.Tests.{allBelow-last, and-assoc, and-l, and-true, below, either, or-false-l, or-false-r}
-use Rattle.book.specs.Head.{columnOf, rowsOf}
+use Rattle.book.specs.Heads.{columnOf, rowsOf}
 use Rattle.words.specs.Cells.{Kept, Readable, nearPlace}
 use Rattle.words.specs.Sheets.{AtSheet, CutBy, IndexOf, Inside, OnlySheet, Sized, WordCut, firstByte, isSet, passesAt, passesBelow, swapped, valueAt, valueIn}
 use Rattle.words.proofs.Indexes.{Where, index-dropped, index-kept, left, length-swapped, names-other, neither, of-set-other, of-set-same, of-swapped, of-swapped-other, other, other-left, other-lt, other-rest, other-right, past-limit, right, set-below, where-is}
@@ -32,9 +32,9 @@ row-word W s w k l =
     rw (p, q)
 
 -- a word's rows are there
-pub word-readable : {b : List ℕ} {first s : ℕ} → AtSheet b first s → (W : List ℕ) → Inside b s W → (w : ℕ) → w < 8 → ofSheet W s w < 2 ^ 64
-    → Readable b first (64 * w) (ofSheet W s w)
-word-readable {b} {first} {s} a W h w l f =
+pub word-readable : {b : List ℕ} {begin s : ℕ} → AtSheet b begin s → (W : List ℕ) → Inside b s W → (w : ℕ) → w < 8 → ofSheet W s w < 2 ^ 64
+    → Readable b begin (64 * w) (ofSheet W s w)
+word-readable {b} {begin} {s} a W h w l f =
     record { there = λ k e. cell-there a (64 * w + k) (row k e); value = λ k j e p. cell-small a (64 * w + k) j (row k e) p }
   where
     row : (k : ℕ) → bit k (ofSheet W s w) ≡ true → 64 * w + k < rowsOf b s
@@ -52,9 +52,9 @@ word-start (suc (suc (suc (suc (suc (suc zero)))))) l = omega arith
 word-start (suc (suc (suc (suc (suc (suc (suc zero))))))) l = omega arith
 word-start (suc (suc (suc (suc (suc (suc (suc (suc w)))))))) l = absurd (omega arith)
 
-pub word-there : {b : List ℕ} {first s : ℕ} → AtSheet b first s → (W : List ℕ) → Inside b s W → (w : ℕ) → w < 8 → ofSheet W s w < 2 ^ 64 → 0 < ofSheet W s w
-    → nearPlace first w + 239 < length b
-word-there {b} {first} {s} a W h w l f p =
+pub word-there : {b : List ℕ} {begin s : ℕ} → AtSheet b begin s → (W : List ℕ) → Inside b s W → (w : ℕ) → w < 8 → ofSheet W s w < 2 ^ 64 → 0 < ofSheet W s w
+    → nearPlace begin w + 239 < length b
+word-there {b} {begin} {s} a W h w l f p =
     let k = some-bit 64 (ofSheet W s w) f p in
     let r : 64 * w + k .0 < rowsOf b s = h .at (64 * w + k .0) (omega (arith, k .1)) (row-word W s w (k .0) (k .1) ∙ k .2) in
     let q : 64 * w < rowsOf b s = omega arith in
@@ -73,8 +73,8 @@ only-more p q =
     }
 
 -- ---- one word
-module _ {b : List ℕ} {first s : ℕ} (a : AtSheet b first s) (p j d : ℕ) (W X N : List ℕ) (h : IndexOf s W X N) (size : Sized W X N) (l : p < getD N s 0)
-    (w word keep : ℕ) (ew : w ≡ ofSheet X s p) (eword : word ≡ ofSheet W s w) (k : Kept b first (64 * w) j d word keep) where
+module _ {b : List ℕ} {begin s : ℕ} (a : AtSheet b begin s) (p j d : ℕ) (W X N : List ℕ) (h : IndexOf s W X N) (size : Sized W X N) (l : p < getD N s 0)
+    (w word keep : ℕ) (ew : w ≡ ofSheet X s p) (eword : word ≡ ofSheet W s w) (k : Kept b begin (64 * w) j d word keep) where
   small : p < 8
   small = omega (arith, h .few)
 
@@ -179,7 +179,7 @@ pub record Cutting (b : List ℕ) (s p j d : ℕ) (W X N W′ X′ N′ : List �
   pub sized : Sized W′ X′ N′
   pub same : any ≡ false → W′ ≡ W
 
-kept-none : {b : List ℕ} {first from j d x y : ℕ} → x ≡ 0 → y ≡ 0 → Kept b first from j d x y
+kept-none : {b : List ℕ} {begin from j d x y : ℕ} → x ≡ 0 → y ≡ 0 → Kept b begin from j d x y
 kept-none e f = record { at = λ k. rw (e, f, bit-of-zero) }
 
 pub cutting-start : (b : List ℕ) (s j d n : ℕ) (W X N : List ℕ) → IndexOf s W X N → Sized W X N → n ≡ getD N s 0 → Cutting b s n j d W X N W X N false

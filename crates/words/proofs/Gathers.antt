@@ -10,8 +10,10 @@ use lib.Bits.{bitAnd, bitOr}
 use lib.Dec.{eqb}
 use lib.ListN.{getD, replicate}
 use borrow.Author.Tests.{eqb-true}
+use Rattle.model.specs.Books.{matches}
 use Rattle.model.specs.Masks.{bit}
 use Rattle.model.specs.States.{ofSheet}
+use Rattle.model.proofs.Books.{matches-e, matches-i}
 use Rattle.model.proofs.Masks.{bit-and, bit-below, bit-of-zero, bit-or}
 use Rattle.model.proofs.Tests.{and-i, below, either, or-false-l, or-false-r}
 use Rattle.words.specs.Cells.{Covered, Gathered, SmallSets, cellAt, fourOf}
@@ -99,6 +101,9 @@ pub no-sets : SmallSets (replicate 4 0)
 no-sets = same-sets 0 (omega arith)
 
 -- ---- the walk over the words
+matched : {x v : ℕ} → x ≡ v → matches x v ≡ true
+matched {x} {v} e = rw e (matches-i v)
+
 -- every value seen is carried, and the values of the rows at positions below p have been seen
 pub record Supporting (b : List ℕ) (s p : ℕ) (W X seen : List ℕ) : Type 0 where
   pub sound : (j v : ℕ) → j < 4 → bit v (getD seen j 0) ≡ true → Carries b s W j v
@@ -111,9 +116,9 @@ supporting-start b s W X {seen} z =
       done = λ i j k l m e. absurd (omega arith);
     }
 
-module _ {b : List ℕ} {first s : ℕ} (a : AtSheet b first s) {W X N : List ℕ} (h : IndexOf s W X N) (z : Sized W X N) where
+module _ {b : List ℕ} {begin s : ℕ} (a : AtSheet b begin s) {W X N : List ℕ} (h : IndexOf s W X N) (z : Sized W X N) where
   pub supporting-more : {p w word : ℕ} {f g : List ℕ} → p < getD N s 0 → w ≡ ofSheet X s p → word ≡ ofSheet W s w → Supporting b s p W X f
-      → Gathered b first (64 * w) word f g → Supporting b s (p + 1) W X g
+      → Gathered b begin (64 * w) word f g → Supporting b s (p + 1) W X g
   supporting-more {p} {w} {word} {f} {g} l ew eword q r = record {
     sound = λ j v m e. from j v m (r .sound j v m e);
     done = λ i j k m n e. here i j k n e (below i p) m;
@@ -122,12 +127,12 @@ module _ {b : List ℕ} {first s : ℕ} (a : AtSheet b first s) {W X N : List �
       small : w < 8
       small = rw ew (h .each p (omega (arith, h .few)))
 
-      from : (j v : ℕ) → j < 4 → (bit v (getD f j 0) ≡ true) ⊎ ((k : ℕ) × (bit k word ≡ true) × (cellAt b first (64 * w + k) j ≡ v)) → Carries b s W j v
+      from : (j v : ℕ) → j < 4 → (bit v (getD f j 0) ≡ true) ⊎ ((k : ℕ) × (bit k word ≡ true) × (cellAt b begin (64 * w + k) j ≡ v)) → Carries b s W j v
       from j v m (inl e) = q .sound j v m e
       from j v m (inr (k, e, u)) =
           let y : bit k (ofSheet W s w) ≡ true = rw eword at e in
           let t = bit-below 64 (ofSheet W s w) k (z .bits (8 * s + w)) y in
-          record { row = 64 * w + k; small = omega (arith, small); set-row = row-word W s w k t ∙ y; value = ap (λ (i : ℕ). cellAt b i (64 * w + k) j) (sym (a .begins)) ∙ u }
+          record { row = 64 * w + k; small = omega (arith, small); set-row = row-word W s w k t ∙ y; value = matched (ap (λ (i : ℕ). cellAt b i (64 * w + k) j) (sym (a .begins)) ∙ u) }
 
       here : (i j k : ℕ) → j < 4 → bit k (ofSheet W s (ofSheet X s i)) ≡ true → (i < p) ⊎ (p ≤ i) → i < p + 1
           → bit (valueAt b s (64 * ofSheet X s i + k) j) (getD g j 0) ≡ true
@@ -149,7 +154,7 @@ module _ {b : List ℕ} {first s : ℕ} (a : AtSheet b first s) {W X N : List �
           let e : 64 * (r .row / 64) + r .row % 64 ≡ r .row = omega arith in
           let u : bit (r .row % 64) (ofSheet W s (ofSheet X s (f .0))) ≡ true = rw (f .2) (r .set-row) in
           let there = at (f .0) (f .1) (below (f .0) p) u in
-          rw (← r .value, ← e, ← f .2) (q .done (f .0) j (r .row % 64) there m u)
+          rw (← matches-e _ v (r .value), ← e, ← f .2) (q .done (f .0) j (r .row % 64) there m u)
         where
           at : (i : ℕ) → i < 8 → (i < p) ⊎ (p ≤ i) → bit (r .row % 64) (ofSheet W s (ofSheet X s i)) ≡ true → i < p
           at i n (inl o) u = o

@@ -93,15 +93,15 @@ getD-swapped xs p q k lp lq = go (where-is p q k)
     second : getD (swapped xs p q) q 0 ≡ getD xs p 0
     second = getD-set-same (set xs p (getD xs q 0)) q (getD xs p 0) 0 (rw (length-set xs p (getD xs q 0)) lq)
 
-    first : (either-way : (p ≡ q) ⊎ (p ≡ q → ⊥)) → getD (swapped xs p q) p 0 ≡ getD xs q 0
-    first (inl e) = ap (λ (i : ℕ). getD (swapped xs p q) i 0) e ∙ second ∙ ap (λ (i : ℕ). getD xs i 0) e
-    first (inr n) = getD-set-other (set xs p (getD xs q 0)) q p (getD xs p 0) 0 n ∙ getD-set-same xs p (getD xs q 0) 0 lp
+    begin : (either-way : (p ≡ q) ⊎ (p ≡ q → ⊥)) → getD (swapped xs p q) p 0 ≡ getD xs q 0
+    begin (inl e) = ap (λ (i : ℕ). getD (swapped xs p q) i 0) e ∙ second ∙ ap (λ (i : ℕ). getD xs i 0) e
+    begin (inr n) = getD-set-other (set xs p (getD xs q 0)) q p (getD xs p 0) 0 n ∙ getD-set-same xs p (getD xs q 0) 0 lp
 
     same : (p ≡ q) ⊎ (p ≡ q → ⊥)
     same = ⊎-elim (λ e. inl (eqb-true p q e)) (λ e. inr (eqb-false p q e)) (either (eqb p q))
 
     go : Where p q k → getD (swapped xs p q) k 0 ≡ getD xs (other p q k) 0
-    go (left e) = rw (e, other-left p q) (first same)
+    go (left e) = rw (e, other-left p q) (begin same)
     go (right e) = rw (e, other-right p q) second
     go (neither m n) =
         rw (other-rest p q k m n)

@@ -8,4 +8,4 @@ pub mod Indexes
 pub mod Cuts
 pub mod Gathers
 pub mod Strikes
-pub mod Revisions
+pub mod Looks

@@ -15,17 +15,17 @@ use Rattle.model.specs.Tests.{allBelow, tab}
 use Rattle.model.proofs.Rows.{in-list}
 use Rattle.model.proofs.Tests.{allBelow-e, allBelow-i, allBelow-same, and-i, and-l, and-r, below, getD-tab, length-tab}
 use Rattle.book.specs.Decoding.{bookOf, rowOf, sheetOf}
-use Rattle.book.specs.Fields.{byteAt}
-use Rattle.book.specs.Head.{columnOf, rowsOf, sheetsOf, valuesOf, widthOf}
+use Rattle.fields.specs.Bytes.{byteAt}
+use Rattle.book.specs.Heads.{columnOf, rowsOf, sheetsOf, valuesOf, widthOf}
 use Rattle.book.specs.Rows.{blocksNeeded, blocksOf, placeBound, rowPlace}
-use Rattle.book.proofs.Decoded.{RightBook, accepted-right, byte-below, right-formed, rises, row-inside, value-below}
-use Rattle.book.proofs.Faults.{firstBlock-later}
-use Rattle.book.proofs.Results.{right-length}
-use Rattle.book.proofs.Right.{column-inside, columns-range, rows-most, sheets-most, values-range, width-range}
+use Rattle.book.proofs.Decoding.{RightBook, accepted-right, byte-below, right-formed, rises, row-inside, value-below}
+use Rattle.book.proofs.Rows.{firstBlock-later}
+use Rattle.book.proofs.Verdicts.{right-length}
+use Rattle.book.proofs.Heads.{column-inside, columns-range, rows-most, sheets-most, values-range, width-range}
 use Rattle.words.specs.Cells.{cellAt, cellPlace}
 use Rattle.words.specs.Sheets.{AtSheet, valueAt}
 
-module _ {b : List ℕ} {first s : ℕ} (a : AtSheet b first s) where
+module _ {b : List ℕ} {begin s : ℕ} (a : AtSheet b begin s) where
   right : RightBook b
   right = accepted-right b (a .accepted)
 
@@ -54,37 +54,37 @@ module _ {b : List ℕ} {first s : ℕ} (a : AtSheet b first s) where
       go (inr p) (inr q) = omega arith
 
   -- ---- the rows
-  same-place : (r j : ℕ) → rowPlace b s r + j ≡ cellPlace first r j
+  same-place : (r j : ℕ) → rowPlace b s r + j ≡ cellPlace begin r j
   unfolding rowPlace
   same-place r j = omega (arith, a .begins)
 
-  pub cell-there : (r : ℕ) → r < rowsOf b s → cellPlace first r 3 < length b
+  pub cell-there : (r : ℕ) → r < rowsOf b s → cellPlace begin r 3 < length b
   cell-there r l = omega (arith, same-place r 3, row-inside b right s (a .one) r l)
 
   -- the whole block of a row is there
-  pub block-there : (r : ℕ) → r < rowsOf b s → first + 512 * (r / 127) + 512 ≤ length b
+  pub block-there : (r : ℕ) → r < rowsOf b s → begin + 512 * (r / 127) + 512 ≤ length b
   unfolding blocksOf blocksNeeded
   block-there r l =
       omega (arith, a .begins, right-length b (right .length-right), right .blocks, firstBlock-later b s (sheetsOf b) (a .one))
 
-  pub cell-bound : (r j : ℕ) → r < rowsOf b s → j < 4 → cellAt b first r j < placeBound b s j
+  pub cell-bound : (r j : ℕ) → r < rowsOf b s → j < 4 → cellAt b begin r j < placeBound b s j
   cell-bound r j l p = rw (← same-place r j) (byte-below b right s (a .one) r j l p)
 
-  pub cell-value : (r j : ℕ) → r < rowsOf b s → j < widthOf b s → cellAt b first r j < valuesOf b (columnOf b s j)
+  pub cell-value : (r j : ℕ) → r < rowsOf b s → j < widthOf b s → cellAt b begin r j < valuesOf b (columnOf b s j)
   cell-value r j l p = rw (← same-place r j) (value-below b right s (a .one) r j l p)
 
-  pub cell-small : (r j : ℕ) → r < rowsOf b s → j < 4 → cellAt b first r j < 32
+  pub cell-small : (r j : ℕ) → r < rowsOf b s → j < 4 → cellAt b begin r j < 32
   unfolding placeBound
   cell-small r j l p = go (below j (widthOf b s))
     where
-      go : (j < widthOf b s) ⊎ (widthOf b s ≤ j) → cellAt b first r j < 32
+      go : (j < widthOf b s) ⊎ (widthOf b s ≤ j) → cellAt b begin r j < 32
       go (inl q) = omega (arith, cell-value r j l q, values-range b (right .head) (columnOf b s j) (column-inside b (right .head) s (a .one) j q) .1)
       go (inr q) =
-          let e : cellAt b first r j < 1 = rw (le-ltb j (widthOf b s) q) at (cell-bound r j l p) in omega arith
+          let e : cellAt b begin r j < 1 = rw (le-ltb j (widthOf b s) q) at (cell-bound r j l p) in omega arith
 
   -- ---- valid rows
   valid-tab : (n : ℕ) (D : List ℕ) (f g : ℕ → ℕ) → valid D (tab n f) (tab n g) ≡ allBelow n (λ j. has D (f j) (g j))
-  unfolding tab valid allBelow
+  unfolding tab valid allBelow has
   valid-tab zero D f g = refl
   valid-tab (suc n) D f g = ap (λ (t : Bool). has D (f 0) (g 0) && t) (valid-tab n D (λ i. f (suc i)) (λ i. g (suc i)))
 

@@ -16,7 +16,7 @@ use Rattle.model.specs.Stores.{IsStore, Within, has, meet, values}
 use Rattle.model.proofs.Masks.{bit-and, bit-or, bit-pow}
 use Rattle.model.proofs.Stores.{meet-has, meet-store, values-fall, within-refl, within-trans}
 use Rattle.model.proofs.Tests.{and-i, and-l, and-r, below, either, or-false-l, or-false-r}
-use Rattle.book.specs.Head.{columnOf, widthOf}
+use Rattle.book.specs.Heads.{columnOf, widthOf}
 use Rattle.words.specs.Sheets.{AtSheet, Carries, Loses, Struck, StruckPlace, StruckTo, Supported, Wanted}
 use Rattle.words.proofs.Gathers.{same-sets}
 use Rattle.words.proofs.Indexes.{set-below}
@@ -49,7 +49,7 @@ loses-more {D} {E} {F} {a} {b} p q =
     go (inr x) (inr y) n = absurd (n (omega arith) (omega arith))
 
 -- ---- one place
-module _ {b : List ℕ} {first s : ℕ} (j y : ℕ) {D : List ℕ} (a : AtSheet b first s) (d : IsStore 16 D) where
+module _ {b : List ℕ} {begin s : ℕ} (j y : ℕ) {D : List ℕ} (a : AtSheet b begin s) (d : IsStore 16 D) where
   -- a place past the width
   pub struck-past : widthOf b s ≤ j → StruckPlace b s j y D D 0
   struck-past l = record { loses = loses-none d; struck = λ c v e. inl e; left = λ v m e. absurd (omega arith) }
@@ -119,7 +119,7 @@ module _ {b : List ℕ} {s : ℕ} (y : List ℕ) {D : List ℕ} where
       → StruckTo b s (n + 1) y D F (bitOr lost more)
   struck-more {E} {F} n p q = record {
     loses = loses-more (p .loses) (q .loses);
-    struck = λ c v e. first c v (p .struck c v e);
+    struck = λ c v e. begin c v (p .struck c v e);
     left = λ j v l m e. go j v m e (below j n) l;
   }
     where
@@ -128,20 +128,20 @@ module _ {b : List ℕ} {s : ℕ} (y : List ℕ) {D : List ℕ} where
       second c v (inl e) = inl e
       second c v (inr (l, e, f)) = inr (n, omega arith, l, e, f)
 
-      first : (c v : ℕ) → (has E c v ≡ true) ⊎ ((j : ℕ) × (j < n) × (j < widthOf b s) × (columnOf b s j ≡ c) × (bit v (getD y j 0) ≡ false))
+      begin : (c v : ℕ) → (has E c v ≡ true) ⊎ ((j : ℕ) × (j < n) × (j < widthOf b s) × (columnOf b s j ≡ c) × (bit v (getD y j 0) ≡ false))
           → (has F c v ≡ true) ⊎ ((j : ℕ) × (j < n + 1) × (j < widthOf b s) × (columnOf b s j ≡ c) × (bit v (getD y j 0) ≡ false))
-      first c v (inl e) = second c v (q .struck c v e)
-      first c v (inr (j, k, l, e, f)) = inr (j, omega arith, l, e, f)
+      begin c v (inl e) = second c v (q .struck c v e)
+      begin c v (inr (j, k, l, e, f)) = inr (j, omega arith, l, e, f)
 
       go : (j v : ℕ) → j < widthOf b s → has F (columnOf b s j) v ≡ true → (j < n) ⊎ (n ≤ j) → j < n + 1 → bit v (getD y j 0) ≡ true
       go j v m e (inl l) k = p .left j v l m (q .loses .within .at (columnOf b s j) v e)
       go j v m e (inr l) k = let z : j ≡ n = omega arith in rw z (q .left v (rw z at m) (rw z at e))
 
 -- the sets are what the rows carry of the domains
-pub struck-all-places : {b : List ℕ} {first s : ℕ} → AtSheet b first s → {W x y D E : List ℕ} {lost : ℕ}
+pub struck-all-places : {b : List ℕ} {begin s : ℕ} → AtSheet b begin s → {W x y D E : List ℕ} {lost : ℕ}
     → Wanted b s D (widthOf b s) x → Supported b s W x y → StruckTo b s (widthOf b s) y D E lost → Struck b s W D E lost
 unfolding has
-struck-all-places {b} {first} {s} a {W} {x} {y} {D} {E} w h p =
+struck-all-places {b} {begin} {s} a {W} {x} {y} {D} {E} w h p =
     record {
       loses = p .loses;
       struck = λ c v e. go c v e (p .struck c v e);

@@ -14,7 +14,7 @@ use Rattle.model.specs.Masks.{Cleared, bit, maskOf}
 use Rattle.model.specs.Tests.{oneIf}
 use Rattle.model.proofs.Masks.{bit-and, bit-high, bit-maskOf, bit-of-zero, bit-or, bit-pow, bit-pow-other, maskOf-lt, maskOf-same}
 use Rattle.model.proofs.Tests.{and-false, and-l, and-r, and-true, below, either}
-use Rattle.book.specs.Fields.{byteAt}
+use Rattle.fields.specs.Bytes.{byteAt}
 use Rattle.words.specs.Cells.{AllNear, Kept, KeptNear, NearReadable, Readable, cellAt, cellPlace, nearPlace}
 use Rattle.words.proofs.Ones.{complement, low-ones}
 
@@ -94,12 +94,12 @@ walked-turn {p} {word} {left} {keep} {rest} {h} {t} w c l q e =
 
 -- the tests of pass 1: the value of row k of the word is in d
 unfoldable pub farIn : List ℕ → ℕ → ℕ → ℕ → ℕ → ℕ → Bool
-farIn b first from j d k = bit (cellAt b first (from + k) j) d
+farIn b begin from j d k = bit (cellAt b begin (from + k) j) d
 
 unfoldable pub nearIn : List ℕ → ℕ → ℕ → ℕ → Bool
 nearIn b base d k = bit (byteAt b (base + 4 * k)) d
 
-pub far-end : {b : List ℕ} {first from j d word keep : ℕ} → Walked (farIn b first from j d) word 0 keep → Kept b first from j d word keep
+pub far-end : {b : List ℕ} {begin from j d word keep : ℕ} → Walked (farIn b begin from j d) word 0 keep → Kept b begin from j d word keep
 unfolding farIn
 far-end w = record { at = walked-end w }
 
@@ -112,9 +112,9 @@ pub value-in : (d v w h : ℕ) → v ≡ w → h ≡ d / 2 ^ v % 2 → bit w d �
 unfolding bit
 value-in d v w h e f = rw (f, ← e)
 
-pub far-in : (b : List ℕ) (first from j d t v h : ℕ) → v ≡ cellAt b first (from + t) j → h ≡ d / 2 ^ v % 2 → farIn b first from j d t ≡ eqb h 1
+pub far-in : (b : List ℕ) (begin from j d t v h : ℕ) → v ≡ cellAt b begin (from + t) j → h ≡ d / 2 ^ v % 2 → farIn b begin from j d t ≡ eqb h 1
 unfolding farIn
-far-in b first from j d t v h e f = value-in d v _ h e f
+far-in b begin from j d t v h e f = value-in d v _ h e f
 
 pub near-in : (b : List ℕ) (base d t v h : ℕ) → v ≡ byteAt b (base + 4 * t) → h ≡ d / 2 ^ v % 2 → nearIn b base d t ≡ eqb h 1
 unfolding nearIn
@@ -191,8 +191,8 @@ same-block (suc (suc (suc (suc (suc (suc zero)))))) k l m = omega arith
 same-block (suc (suc (suc (suc (suc (suc (suc zero))))))) k l m = omega arith
 same-block (suc (suc (suc (suc (suc (suc (suc (suc w)))))))) k l m = absurd (omega arith)
 
-pub near-same : (first w k j : ℕ) → w < 8 → k < 60 → nearPlace first w + 4 * k + j ≡ cellPlace first (64 * w + k) j
-near-same first w k j l m = omega (arith, same-block w k l m)
+pub near-same : (begin w k j : ℕ) → w < 8 → k < 60 → nearPlace begin w + 4 * k + j ≡ cellPlace begin (64 * w + k) j
+near-same begin w k j l m = omega (arith, same-block w k l m)
 
 pub near-bits : (word k : ℕ) → bit k (bitAnd word 1152921504606846975) ≡ (bit k word && ltb k 60)
 near-bits word k = bit-and k word 1152921504606846975 ∙ ap (λ (t : Bool). bit k word && t) (low-ones 60 k)
@@ -205,22 +205,22 @@ far-bits word k l =
 pub near-lt : (word : ℕ) → bitAnd word 1152921504606846975 < 1152921504606846976
 near-lt word = let z = and-le-r word 1152921504606846975 in omega arith
 
-module _ (b : List ℕ) (first w word : ℕ) (small : w < 8) (fits : word < 2 ^ 64) where
+module _ (b : List ℕ) (begin w word : ℕ) (small : w < 8) (fits : word < 2 ^ 64) where
   in-near : (k : ℕ) → bit k (bitAnd word 1152921504606846975) ≡ true → (bit k word ≡ true) × (k < 60)
   in-near k e =
       let z = sym (near-bits word k) ∙ e in (and-l (bit k word) _ z, ltb-true k 60 (and-r (bit k word) _ z))
 
-  pub near-readable : (j : ℕ) → j < 4 → Readable b first (64 * w) word → NearReadable b (nearPlace first w + j) (bitAnd word 1152921504606846975)
+  pub near-readable : (j : ℕ) → j < 4 → Readable b begin (64 * w) word → NearReadable b (nearPlace begin w + j) (bitAnd word 1152921504606846975)
   near-readable j l h = record {
-    there = λ k e. let p = in-near k e in omega (arith, h .there k (p .0), near-same first w k j small (p .1));
+    there = λ k e. let p = in-near k e in omega (arith, h .there k (p .0), near-same begin w k j small (p .1));
     value = λ k e.
         let p = in-near k e in
-        let q : nearPlace first w + j + 4 * k ≡ cellPlace first (64 * w + k) j = omega (arith, near-same first w k j small (p .1)) in
+        let q : nearPlace begin w + j + 4 * k ≡ cellPlace begin (64 * w + k) j = omega (arith, near-same begin w k j small (p .1)) in
         rw q (h .value k j (p .0) l);
     few = λ k e. in-near k e .1;
   }
 
-  pub far-readable : Readable b first (64 * w) word → Readable b first (64 * w) (bitAnd word (18446744073709551615 - 1152921504606846975))
+  pub far-readable : Readable b begin (64 * w) word → Readable b begin (64 * w) (bitAnd word (18446744073709551615 - 1152921504606846975))
   far-readable h = record { there = λ k e. h .there k (in-far k e); value = λ k j e l. h .value k j (in-far k e) l }
     where
       in-far : (k : ℕ) → bit k (bitAnd word (18446744073709551615 - 1152921504606846975)) ≡ true → bit k word ≡ true
@@ -228,26 +228,26 @@ module _ (b : List ℕ) (first w word : ℕ) (small : w < 8) (fits : word < 2 ^ 
 
   -- rows of the first 60 alone
   pub kept-near : {j d keep : ℕ} → j < 4 → bitAnd word 1152921504606846975 ≡ word
-      → KeptNear b (nearPlace first w + j) d (bitAnd word 1152921504606846975) keep → Kept b first (64 * w) j d word keep
+      → KeptNear b (nearPlace begin w + j) d (bitAnd word 1152921504606846975) keep → Kept b begin (64 * w) j d word keep
   kept-near {j} {d} {keep} l e h = record { at = λ k. h .at k ∙ same k (either (bit k (bitAnd word 1152921504606846975))) }
     where
       same : (k : ℕ) → (bit k (bitAnd word 1152921504606846975) ≡ true) ⊎ (bit k (bitAnd word 1152921504606846975) ≡ false)
-          → (bit k (bitAnd word 1152921504606846975) && bit (byteAt b (nearPlace first w + j + 4 * k)) d) ≡ (bit k word && bit (cellAt b first (64 * w + k) j) d)
+          → (bit k (bitAnd word 1152921504606846975) && bit (byteAt b (nearPlace begin w + j + 4 * k)) d) ≡ (bit k word && bit (cellAt b begin (64 * w + k) j) d)
       same k (inl p) =
-          let q : nearPlace first w + j + 4 * k ≡ cellPlace first (64 * w + k) j = omega (arith, near-same first w k j small (in-near k p .1)) in
+          let q : nearPlace begin w + j + 4 * k ≡ cellPlace begin (64 * w + k) j = omega (arith, near-same begin w k j small (in-near k p .1)) in
           rw (p, in-near k p .0, q) refl
       same k (inr p) = rw (p, sym (ap (bit k) e) ∙ p) refl
 
   pub kept-both : {j d keep more : ℕ} → j < 4
-      → KeptNear b (nearPlace first w + j) d (bitAnd word 1152921504606846975) keep
-      → Kept b first (64 * w) j d (bitAnd word (18446744073709551615 - 1152921504606846975)) more → Kept b first (64 * w) j d word (bitOr keep more)
+      → KeptNear b (nearPlace begin w + j) d (bitAnd word 1152921504606846975) keep
+      → Kept b begin (64 * w) j d (bitAnd word (18446744073709551615 - 1152921504606846975)) more → Kept b begin (64 * w) j d word (bitOr keep more)
   kept-both {j} {d} {keep} {more} l h f = record { at = λ k. bit-or k keep more ∙ go k (below k 64) (below k 60) }
     where
-      go : (k : ℕ) → (k < 64) ⊎ (64 ≤ k) → (k < 60) ⊎ (60 ≤ k) → (bit k keep || bit k more) ≡ (bit k word && bit (cellAt b first (64 * w + k) j) d)
+      go : (k : ℕ) → (k < 64) ⊎ (64 ≤ k) → (k < 60) ⊎ (60 ≤ k) → (bit k keep || bit k more) ≡ (bit k word && bit (cellAt b begin (64 * w + k) j) d)
       go k (inl m) (inl p) =
-          let q : nearPlace first w + j + 4 * k ≡ cellPlace first (64 * w + k) j = omega (arith, near-same first w k j small p) in
+          let q : nearPlace begin w + j + 4 * k ≡ cellPlace begin (64 * w + k) j = omega (arith, near-same begin w k j small p) in
           rw (h .at k, f .at k, near-bits word k, far-bits word k m, lt-ltb k 60 p, and-true (bit k word), and-false (bit k word), q)
-          (or-false (bit k word && bit (cellAt b first (64 * w + k) j) d))
+          (or-false (bit k word && bit (cellAt b begin (64 * w + k) j) d))
       go k (inl m) (inr p) =
           rw (h .at k, f .at k, near-bits word k, far-bits word k m, le-ltb k 60 p, and-true (bit k word), and-false (bit k word)) refl
       go k (inr m) p =

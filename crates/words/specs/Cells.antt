@@ -8,29 +8,29 @@ use lib.Bits.{bitOr}
 use lib.Dec.{ltb}
 use lib.ListN.{getD, length}
 use Rattle.model.specs.Masks.{bit}
-use Rattle.book.specs.Fields.{byteAt}
+use Rattle.fields.specs.Bytes.{byteAt}
 
--- where place j of row r stands, of a sheet whose rows begin at byte `first`: each block has 127 rows of 4 bytes, and 4 bytes more
+-- where place j of row r stands, of a sheet whose rows begin at byte `begin`: each block has 127 rows of 4 bytes, and 4 bytes more
 abbrev pub cellPlace : ℕ → ℕ → ℕ → ℕ
-cellPlace first r j = first + 4 * (r + r / 127) + j
+cellPlace begin r j = begin + 4 * (r + r / 127) + j
 
 -- the value that stands there
 abbrev pub cellAt : List ℕ → ℕ → ℕ → ℕ → ℕ
-cellAt b first r j = byteAt b (cellPlace first r j)
+cellAt b begin r j = byteAt b (cellPlace begin r j)
 
 -- bit k of the word stands for row from + k. The rows of the word are there, and their bytes are values
-pub record Readable (b : List ℕ) (first from word : ℕ) : Type 0 where
-  pub there : (k : ℕ) → bit k word ≡ true → cellPlace first (from + k) 3 < length b
-  pub value : (k j : ℕ) → bit k word ≡ true → j < 4 → cellAt b first (from + k) j < 32
+pub record Readable (b : List ℕ) (begin from word : ℕ) : Type 0 where
+  pub there : (k : ℕ) → bit k word ≡ true → cellPlace begin (from + k) 3 < length b
+  pub value : (k j : ℕ) → bit k word ≡ true → j < 4 → cellAt b begin (from + k) j < 32
 
 -- ---- pass 1
 -- r is the word cut to the rows whose value at place j is in d
-pub record Kept (b : List ℕ) (first from j d word r : ℕ) : Type 0 where
-  pub at : (k : ℕ) → bit k r ≡ (bit k word && bit (cellAt b first (from + k) j) d)
+pub record Kept (b : List ℕ) (begin from j d word r : ℕ) : Type 0 where
+  pub at : (k : ℕ) → bit k r ≡ (bit k word && bit (cellAt b begin (from + k) j) d)
 
 -- where row 0 of word w stands; the first 60 rows of a word stand in one block, every 4 bytes from there
 abbrev pub nearPlace : ℕ → ℕ → ℕ
-nearPlace first w = first + 4 * (64 * w + 64 * w / 127)
+nearPlace begin w = begin + 4 * (64 * w + 64 * w / 127)
 
 -- the same of rows whose bytes stand at `base` and every 4 from there
 pub record NearReadable (b : List ℕ) (base word : ℕ) : Type 0 where
@@ -59,7 +59,7 @@ pub record GatheredOf (cell : ℕ → ℕ → ℕ) (passes : ℕ → Bool) (f g 
 
 -- the rows of a word
 abbrev pub Gathered : List ℕ → ℕ → ℕ → ℕ → List ℕ → List ℕ → Type 0
-Gathered b first from word f g = GatheredOf (λ k j. cellAt b first (from + k) j) (λ k. bit k word) f g
+Gathered b begin from word f g = GatheredOf (λ k j. cellAt b begin (from + k) j) (λ k. bit k word) f g
 
 -- the same of rows that stand at `base` and every 4 bytes from there
 abbrev pub GatheredNear : List ℕ → ℕ → ℕ → List ℕ → List ℕ → Type 0

@@ -1,3 +1,5 @@
--- Cells: the bytes of a row and the rows of a word. Sheets: the words of a sheet, and what each pass makes of them, up to `Revised`.
+-- Cells: the bytes of a row and the rows of a word. Sheets: the words of a sheet, and what each pass makes of them. Looks: a whole look at a sheet,
+-- which is all that the engine sees of it.
 pub mod Cells
 pub mod Sheets
+pub mod Looks

@@ -1,4 +1,5 @@
--- One sheet: which of its rows are set in the words, what is known of it while the engine works, and what a pass makes of it.
+-- One sheet and its rows: which of them are set in the words, and what a pass makes of them. All this is inside of this crate; what the engine sees of a
+-- sheet is in Looks.
 --
 -- Names: W, X, N are the arrays of words, index positions and counts of words that are not zero, D the domains; a second set has a ′.
 use mathlib.Core.Path.{_≡_}
@@ -7,13 +8,13 @@ use mathlib.Core.Logic.{_⊎_}
 use mathlib.Core.List.{List}
 use Prim.Native.Nat.{_%_, _*_, _/_, _<_, _^_, _≤_, ℕ}
 use lib.ListN.{getD, length, set}
-use Rattle.model.specs.Books.{supported}
+use Rattle.model.specs.Books.{inDomain, matches}
 use Rattle.model.specs.Masks.{bit}
 use Rattle.model.specs.States.{Indexed, ofSheet, sheetAt, validRow}
 use Rattle.model.specs.Stores.{IsStore, Within, has, values}
 use Rattle.model.specs.Tests.{allBelow}
 use Rattle.book.specs.Decoding.{bookOf}
-use Rattle.book.specs.Head.{columnOf, rowsOf, sheetsOf, widthOf}
+use Rattle.book.specs.Heads.{columnOf, rowsOf, sheetsOf, widthOf}
 use Rattle.book.specs.Rows.{firstBlock}
 use Rattle.book.specs.Verdicts.{Accepted}
 use Rattle.words.specs.Cells.{Kept, SmallSets, cellAt}
@@ -27,11 +28,11 @@ firstByte b s = 512 * firstBlock b s
 abbrev pub valueAt : List ℕ → ℕ → ℕ → ℕ → ℕ
 valueAt b s r j = cellAt b (firstByte b s) r j
 
--- s is a sheet of the accepted book b, and its rows begin at `first`
-pub record AtSheet (b : List ℕ) (first s : ℕ) : Type 0 where
+-- s is a sheet of the accepted book b, and its rows begin at `begin`
+pub record AtSheet (b : List ℕ) (begin s : ℕ) : Type 0 where
   pub accepted : Accepted b
   pub one : s < sheetsOf b
-  pub begins : first ≡ firstByte b s
+  pub begins : begin ≡ firstByte b s
 
 -- row r of sheet s is set: "Row r is bit r mod 64 of word r div 64"
 unfoldable pub isSet : List ℕ → ℕ → ℕ → Bool
@@ -84,23 +85,23 @@ pub record CutBy (test : ℕ → Bool) (s : ℕ) (W X N W′ X′ N′ : List �
 
 -- the value of row r at place j is in d
 unfoldable pub valueIn : List ℕ → ℕ → ℕ → ℕ → ℕ → Bool
-valueIn b s j d r = bit (valueAt b s r j) d
+valueIn b s j d r = inDomain (valueAt b s r j) d
 
 -- the column of place j is not in `changed`, or row r has a value of its domain there
 unfoldable pub passesAt : List ℕ → ℕ → ℕ → List ℕ → ℕ → ℕ → Bool
-passesAt b s changed D j r = not (bit (columnOf b s j) changed) || has D (columnOf b s j) (valueAt b s r j)
+passesAt b s changed D j r = not (bit (columnOf b s j) changed) || inDomain (valueAt b s r j) (getD D (columnOf b s j) 0)
 
 -- the same at every place below n
 unfoldable pub passesBelow : List ℕ → ℕ → ℕ → List ℕ → ℕ → ℕ → Bool
 passesBelow b s changed D n r = allBelow n (λ j. passesAt b s changed D j r)
 
 -- ---- pass 2
--- a row that is set has the value v at place j
+-- a row that is set has a cell at place j that matches the value v
 pub record Carries (b : List ℕ) (s : ℕ) (W : List ℕ) (j v : ℕ) : Type 0 where
   pub row : ℕ
   pub small : row < 512
   pub set-row : isSet W s row ≡ true
-  pub value : valueAt b s row j ≡ v
+  pub value : matches (valueAt b s row j) v ≡ true
 
 -- y has at each place no value but those that are carried, and of the values in x each that is carried
 pub record Supported (b : List ℕ) (s : ℕ) (W x y : List ℕ) : Type 0 where
@@ -140,10 +141,10 @@ pub record Struck (b : List ℕ) (s : ℕ) (W D D′ : List ℕ) (lost : ℕ) : 
       → (has D′ c v ≡ true) ⊎ ((j : ℕ) × (j < widthOf b s) × (columnOf b s j ≡ c) × (Carries b s W j v → ⊥))
   pub left : (j v : ℕ) → j < widthOf b s → has D′ (columnOf b s j) v ≡ true → Carries b s W j v
 
--- ---- what is known of a sheet while the engine works
+-- ---- the rows while a sheet is looked at
 -- every row that is valid in D is set; a row that is set is a row of the sheet, with values in the domains of all columns but those in
 -- `changed`, which the sheet has not looked at since they lost a value
-pub record SheetKnown (b : List ℕ) (s changed : ℕ) (D W X N : List ℕ) : Type 0 where
+pub record RowsKnown (b : List ℕ) (s changed : ℕ) (D W X N : List ℕ) : Type 0 where
   pub inside : Inside b s W
   pub all : (r : ℕ) → r < 512 → validRow D (sheetAt (bookOf b) s) r ≡ true → isSet W s r ≡ true
   pub seen : (r j : ℕ) → r < 512 → isSet W s r ≡ true → j < widthOf b s → bit (columnOf b s j) changed ≡ false
@@ -153,18 +154,3 @@ pub record SheetKnown (b : List ℕ) (s changed : ℕ) (D W X N : List ℕ) : Ty
 -- each value of each column of the sheet is carried
 pub record AllCarried (b : List ℕ) (s : ℕ) (D W : List ℕ) : Type 0 where
   pub at : (j v : ℕ) → j < widthOf b s → has D (columnOf b s j) v ≡ true → Carries b s W j v
-
--- that is known already, but for the opening, at which no sheet has been looked at
-pub record Carried (opening : Bool) (b : List ℕ) (s : ℕ) (D W : List ℕ) : Type 0 where
-  pub at : opening ≡ false → AllCarried b s D W
-
--- sheet s has been looked at: its rows are those valid in the new domains, and these are the old ones without values that have no support.
--- Where a row is left, every value is carried, and no column became empty
-pub record Revised (b : List ℕ) (s : ℕ) (D W X N D′ W′ X′ N′ : List ℕ) (lost : ℕ) : Type 0 where
-  pub loses : Loses D D′ lost
-  pub struck : (c v : ℕ) → has D c v ≡ true → (has D′ c v ≡ true) ⊎ (supported (bookOf b) D c v ≡ false)
-  pub known : SheetKnown b s 0 D′ W′ X′ N′
-  pub carried : 0 < getD N′ s 0 → AllCarried b s D′ W′
-  pub filled : 0 < getD N′ s 0 → (c v : ℕ) → has D c v ≡ true → (u : ℕ) × (has D′ c u ≡ true)
-  pub only : OnlySheet s W X N W′ X′ N′
-  pub sized : Sized W′ X′ N′

@@ -1,7 +1,7 @@
 // The rows of one word: 64 rows of a sheet, of which those whose bit is set are looked at.
 //
 //     word w    bit 0    bit 1       ..    bit 63
-//     row       64 w     64 w + 1    ..    64 w + 63       row r begins at the file's byte first + 4 (r + r / 127)
+//     row       64 w     64 w + 1    ..    64 w + 63       row r begins at the file's byte begin + 4 (r + r / 127)
 //
 // A block ends after 127 rows, with 4 bytes more. No word has its first 60 rows in two blocks, so these stand at base, base + 4, .. , and
 // only the last four have to be found by division.
@@ -10,8 +10,11 @@ ghost use mathlib.Core.Path.{_≡_};
 ghost use Prim.Native.Nat.{_+_, _*_, _/_, _%_, _^_, _<_, _≤_};
 ghost use lib.Bits.{bitOr};
 ghost use lib.ListN.{length};
-ghost use Rattle.book.specs.Fields.{byteAt};
+ghost use Rattle.fields.specs.Bytes.{byteAt};
 ghost use Rattle.words.specs.Cells.{nearPlace, Readable, Kept, KeptNear, NearReadable, AllNear, fourOf, RowThere, NearRows, RunReadable, RunOf, PastRun, Gathered, GatheredNear, GatheredRun, SmallSets, Joined};
+
+// The first 60 rows of a word.
+const NEAR: u64 = 1152921504606846975;
 
 // ---- pass 1: the rows whose value at a place is in d
 
@@ -24,7 +27,7 @@ fn kept_near_set(book: &[u8], base: usize, d: u32, word: u64) -> u64
     let mut keep: u64 = 0;
     while left != 0 {
         let i = lowest(left);
-        let v = book::fields::wide32(book[base + 4 * (i as usize)]);
+        let v = fields::wide32(book[base + 4 * (i as usize)]);
         keep = keep | (has(d, v) << i);
         left = without_lowest(left);
     }
@@ -40,7 +43,7 @@ fn kept_near_all(book: &[u8], base: usize, d: u32) -> u64
     let mut k: usize = 60;
     while 0 < k {
         k -= 1;
-        keep = keep + keep + has(d, book::fields::wide32(book[base + 4 * k]) % 32);
+        keep = keep + keep + has(d, fields::wide32(book[base + 4 * k]) % 32);
     }
     keep
 }
@@ -62,16 +65,16 @@ fn kept_near(book: &[u8], base: usize, d: u32, word: u64) -> u64
 }
 
 // Rows anywhere.
-fn kept_far(book: &[u8], first: usize, from: usize, j: usize, d: u32, word: u64) -> u64
-    requires { ⌜ (from ≤ 448) × (j < 4) × Readable (now book) first from word ⌝ }
-    ensures { λ r. ⌜ Kept (now (book .entry)) first from j d word r ⌝ }
+fn kept_far(book: &[u8], begin: usize, from: usize, j: usize, d: u32, word: u64) -> u64
+    requires { ⌜ (from ≤ 448) × (j < 4) × Readable (now book) begin from word ⌝ }
+    ensures { λ r. ⌜ Kept (now (book .entry)) begin from j d word r ⌝ }
 {
     let mut left = word;
     let mut keep: u64 = 0;
     while left != 0 {
         let i = lowest(left);
         let r = from + (i as usize);
-        let v = book::fields::wide32(book[first + 4 * (r + r / 127) + j]);
+        let v = fields::wide32(book[begin + 4 * (r + r / 127) + j]);
         keep = keep | (has(d, v) << i);
         left = without_lowest(left);
     }
@@ -79,18 +82,18 @@ fn kept_far(book: &[u8], first: usize, from: usize, j: usize, d: u32, word: u64)
 }
 
 // Pass 1 over word w.
-pub fn kept(book: &[u8], first: usize, w: usize, j: usize, d: u32, word: u64) -> u64
-    requires { ⌜ (w < 8) × (j < 4) × Readable (now book) first (64 * w) word × (nearPlace first w + 239 < length (now book)) ⌝ }
-    ensures { λ r. ⌜ Kept (now (book .entry)) first (64 * w) j d word r ⌝ }
+pub fn kept(book: &[u8], begin: usize, w: usize, j: usize, d: u32, word: u64) -> u64
+    requires { ⌜ (w < 8) × (j < 4) × Readable (now book) begin (64 * w) word × (nearPlace begin w + 239 < length (now book)) ⌝ }
+    ensures { λ r. ⌜ Kept (now (book .entry)) begin (64 * w) j d word r ⌝ }
 {
     let from = 64 * w;
-    let base = first + 4 * (from + from / 127);
-    let near = word & 1152921504606846975;
+    let base = begin + 4 * (from + from / 127);
+    let near = word & NEAR;
     let keep = kept_near(book, base + j, d, near);
     if near == word {
         return keep;
     }
-    keep | kept_far(book, first, from, j, d, word & !1152921504606846975)
+    keep | kept_far(book, begin, from, j, d, word & !NEAR)
 }
 
 // ---- pass 2: the values at each of the four places
@@ -109,16 +112,16 @@ fn with_row(book: &[u8], at: usize, f: Four) -> Four
     ensures { λ g. ⌜ (g .a ≡ bitOr (f .a) (2 ^ byteAt (now (book .entry)) (at + 0))) × (g .b ≡ bitOr (f .b) (2 ^ byteAt (now (book .entry)) (at + 1))) × (g .c ≡ bitOr (f .c) (2 ^ byteAt (now (book .entry)) (at + 2))) × (g .d ≡ bitOr (f .d) (2 ^ byteAt (now (book .entry)) (at + 3))) ⌝ }
 {
     Four {
-        a: f.a | only(book::fields::wide32(book[at]) % 32),
-        b: f.b | only(book::fields::wide32(book[at + 1]) % 32),
-        c: f.c | only(book::fields::wide32(book[at + 2]) % 32),
-        d: f.d | only(book::fields::wide32(book[at + 3]) % 32),
+        a: f.a | only(fields::wide32(book[at]) % 32),
+        b: f.b | only(fields::wide32(book[at + 1]) % 32),
+        c: f.c | only(fields::wide32(book[at + 2]) % 32),
+        d: f.d | only(fields::wide32(book[at + 3]) % 32),
     }
 }
 
 // How many rows of a word are set from the first on without a gap.
 fn run_of(word: u64) -> usize
-    requires { ⌜ word < 1152921504606846976 ⌝ }
+    requires { ⌜ word < 2 ^ 60 ⌝ }
     ensures { λ n. ⌜ (n ≤ 60) × RunOf word n ⌝ }
 {
     u64::trailing_zeros(!word) as usize
@@ -173,9 +176,9 @@ fn gathered_near_set(book: &[u8], base: usize, word: u64) -> Four
 }
 
 // Rows anywhere.
-fn gathered_far(book: &[u8], first: usize, from: usize, word: u64) -> Four
-    requires { ⌜ (from ≤ 448) × Readable (now book) first from word ⌝ }
-    ensures { λ g. ⌜ Gathered (now (book .entry)) first from word (fourOf 0 0 0 0) (fourOf (g .a) (g .b) (g .c) (g .d)) ⌝ }
+fn gathered_far(book: &[u8], begin: usize, from: usize, word: u64) -> Four
+    requires { ⌜ (from ≤ 448) × Readable (now book) begin from word ⌝ }
+    ensures { λ g. ⌜ Gathered (now (book .entry)) begin from word (fourOf 0 0 0 0) (fourOf (g .a) (g .b) (g .c) (g .d)) ⌝ }
 {
     let mut left = word;
     let mut g = Four {
@@ -187,7 +190,7 @@ fn gathered_far(book: &[u8], first: usize, from: usize, word: u64) -> Four
     while left != 0 {
         let i = lowest(left);
         let r = from + (i as usize);
-        g = with_row(book, first + 4 * (r + r / 127), g);
+        g = with_row(book, begin + 4 * (r + r / 127), g);
         left = without_lowest(left);
     }
     g
@@ -206,7 +209,7 @@ fn add(seen: &mut [u32; 4], g: Four)
 
 // The first 60 rows: those that are set from the first on without a gap, and then the others.
 fn gathered_near(book: &[u8], base: usize, word: u64, seen: &mut [u32; 4])
-    requires { ⌜ NearRows (now book) base word × (word < 1152921504606846976) × SmallSets (now seen) ⌝ }
+    requires { ⌜ NearRows (now book) base word × (word < 2 ^ 60) × SmallSets (now seen) ⌝ }
     ensures { λ r. ⌜ GatheredNear (now (book .entry)) base word (now (seen .entry)) (now (seen .exit)) × SmallSets (now (seen .exit)) ⌝ }
 {
     let n = run_of(word);
@@ -219,18 +222,15 @@ fn gathered_near(book: &[u8], base: usize, word: u64, seen: &mut [u32; 4])
 }
 
 // Pass 2 over word w: the values of its rows are added to a set for each place.
-pub fn gathered(book: &[u8], first: usize, w: usize, word: u64, seen: &mut [u32; 4])
-    requires { ⌜ (w < 8) × Readable (now book) first (64 * w) word × (nearPlace first w + 239 < length (now book)) × SmallSets (now seen) ⌝ }
-    ensures { λ r. ⌜ Gathered (now (book .entry)) first (64 * w) word (now (seen .entry)) (now (seen .exit)) × SmallSets (now (seen .exit)) ⌝ }
+pub fn gathered(book: &[u8], begin: usize, w: usize, word: u64, seen: &mut [u32; 4])
+    requires { ⌜ (w < 8) × Readable (now book) begin (64 * w) word × (nearPlace begin w + 239 < length (now book)) × SmallSets (now seen) ⌝ }
+    ensures { λ r. ⌜ Gathered (now (book .entry)) begin (64 * w) word (now (seen .entry)) (now (seen .exit)) × SmallSets (now (seen .exit)) ⌝ }
 {
     let from = 64 * w;
-    let near = word & 1152921504606846975;
-    gathered_near(book, first + 4 * (from + from / 127), near, seen);
+    let near = word & NEAR;
+    gathered_near(book, begin + 4 * (from + from / 127), near, seen);
     if near == word {
         return;
     }
-    add(
-        seen,
-        gathered_far(book, first, from, word & !1152921504606846975),
-    );
+    add(seen, gathered_far(book, begin, from, word & !NEAR));
 }

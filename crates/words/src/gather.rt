@@ -19,22 +19,22 @@ fn covered(x: &[u32; 4], y: &[u32; 4]) -> bool
 // The values that the rows of sheet s carry at each place; of these, once all of x have been seen, the ones seen.
 pub fn carried(
     book: &[u8],
-    first: usize,
+    begin: usize,
     s: usize,
     x: &[u32; 4],
     seen: &mut [u32; 4],
-    live: &[u64; 64],
+    valid: &[u64; 64],
     index: &[u8; 64],
     nonzero: &[u8; 8],
 )
-    requires { ⌜ AtSheet (now book) first s × Inside (now book) s (now live) × IndexOf s (now live) (now index) (now nonzero) × Sized (now live) (now index) (now nonzero) × (now seen ≡ replicate 4 0) × SmallSets (now x) ⌝ }
-    ensures { λ r. ⌜ Supported (now (book .entry)) s (now (live .entry)) (now (x .entry)) (now (seen .exit)) ⌝ }
+    requires { ⌜ AtSheet (now book) begin s × Inside (now book) s (now valid) × IndexOf s (now valid) (now index) (now nonzero) × Sized (now valid) (now index) (now nonzero) × (now seen ≡ replicate 4 0) × SmallSets (now x) ⌝ }
+    ensures { λ r. ⌜ Supported (now (book .entry)) s (now (valid .entry)) (now (x .entry)) (now (seen .exit)) ⌝ }
 {
     let n = nonzero_words(nonzero, s);
     let mut p: usize = 0;
     while p < n {
         let w = word_number(index, s, p);
-        gathered(book, first, w, live[8 * s + w], seen);
+        gathered(book, begin, w, valid[8 * s + w], seen);
         if covered(x, seen) {
             return;
         }

@@ -13,7 +13,7 @@ pub fn nonzero_words(nonzero: &[u8; 8], s: usize) -> usize
     requires { ⌜ s < 8 ⌝ }
     ensures { λ r. ⌜ (r ≡ getD (now (nonzero .entry)) s 0) × (r < 256) ⌝ }
 {
-    book::fields::wide(nonzero[s])
+    fields::wide(nonzero[s])
 }
 
 // The word number at position p of the index of sheet s.
@@ -21,7 +21,7 @@ pub fn word_number(index: &[u8; 64], s: usize, p: usize) -> usize
     requires { ⌜ (s < 8) × (p < 8) × (ofSheet (now index) s p < 8) ⌝ }
     ensures { λ r. ⌜ (r ≡ ofSheet (now (index .entry)) s p) × (r < 8) ⌝ }
 {
-    book::fields::wide(index[8 * s + p])
+    fields::wide(index[8 * s + p])
 }
 
 // Position p of the index of sheet s, whose word became zero, goes past the limit: it changes places with the last one at or below it.
@@ -30,7 +30,7 @@ pub fn drop_word(index: &mut [u8; 64], nonzero: &mut [u8; 8], s: usize, p: usize
     ensures { λ r. ⌜ (now (index .exit) ≡ swapped (now (index .entry)) (8 * s + p) (8 * s + (getD (now (nonzero .entry)) s 0 - 1))) × (now (nonzero .exit) ≡ set (now (nonzero .entry)) s (getD (now (nonzero .entry)) s 0 - 1)) ⌝ }
 {
     let n = nonzero[s] - 1;
-    let last = 8 * s + book::fields::wide(n);
+    let last = 8 * s + fields::wide(n);
     let at = 8 * s + p;
     let x = index[at];
     let y = index[last];

@@ -5,11 +5,13 @@ ghost use mathlib.Core.Path.{_≡_};
 ghost use Prim.Native.Nat.{_<_};
 ghost use lib.ListN.{replicate};
 ghost use Rattle.model.specs.Stores.{IsStore};
-ghost use Rattle.book.specs.Head.{widthOf};
-ghost use Rattle.words.specs.Sheets.{AtSheet, Inside, IndexOf, Sized, Wanted, StruckPlace, StruckTo, Struck, Carried, SheetKnown, Revised};
+ghost use Rattle.book.specs.Heads.{widthOf};
+ghost use Rattle.words.specs.Sheets.{AtSheet, Inside, IndexOf, Sized, Wanted, StruckPlace, StruckTo, Struck};
+ghost use Rattle.words.specs.Looks.{Revised, SheetKnown};
+
 // The domain of each place of sheet s; of a place that is not used, 0 alone, which is what every row has there.
-fn wanted(book: &[u8], first: usize, s: usize, dom: &[u32; 16], x: &mut [u32; 4])
-    requires { ⌜ AtSheet (now book) first s × IsStore 16 (now dom) × (now x ≡ replicate 4 1) ⌝ }
+fn wanted(book: &[u8], begin: usize, s: usize, dom: &[u32; 16], x: &mut [u32; 4])
+    requires { ⌜ AtSheet (now book) begin s × IsStore 16 (now dom) × (now x ≡ replicate 4 1) ⌝ }
     ensures { λ r. ⌜ Wanted (now (book .entry)) s (now (dom .entry)) (widthOf (now (book .entry)) s) (now (x .exit)) ⌝ }
 {
     let k = book::head::width(book, s);
@@ -22,8 +24,8 @@ fn wanted(book: &[u8], first: usize, s: usize, dom: &[u32; 16], x: &mut [u32; 4]
 }
 
 // The column of place j of sheet s struck to the values in y. The column as a bit, if it lost one.
-fn struck(book: &[u8], first: usize, s: usize, j: usize, y: u32, dom: &mut [u32; 16]) -> u32
-    requires { ⌜ AtSheet (now book) first s × (j < 4) × IsStore 16 (now dom) ⌝ }
+fn struck(book: &[u8], begin: usize, s: usize, j: usize, y: u32, dom: &mut [u32; 16]) -> u32
+    requires { ⌜ AtSheet (now book) begin s × (j < 4) × IsStore 16 (now dom) ⌝ }
     ensures { λ r. ⌜ StruckPlace (now (book .entry)) s j y (now (dom .entry)) (now (dom .exit)) r ⌝ }
 {
     if j < book::head::width(book, s) {
@@ -39,15 +41,15 @@ fn struck(book: &[u8], first: usize, s: usize, j: usize, y: u32, dom: &mut [u32;
 }
 
 // Every column of sheet s struck to the values in y. The columns that lost a value.
-fn strike_to(book: &[u8], first: usize, s: usize, y: &[u32; 4], dom: &mut [u32; 16]) -> u32
-    requires { ⌜ AtSheet (now book) first s × IsStore 16 (now dom) ⌝ }
+fn strike_to(book: &[u8], begin: usize, s: usize, y: &[u32; 4], dom: &mut [u32; 16]) -> u32
+    requires { ⌜ AtSheet (now book) begin s × IsStore 16 (now dom) ⌝ }
     ensures { λ r. ⌜ StruckTo (now (book .entry)) s (widthOf (now (book .entry)) s) (now (y .entry)) (now (dom .entry)) (now (dom .exit)) r ⌝ }
 {
     let k = book::head::width(book, s);
     let mut lost: u32 = 0;
     let mut j: usize = 0;
     while j < k {
-        lost = lost | struck(book, first, s, j, y[j], dom);
+        lost = lost | struck(book, begin, s, j, y[j], dom);
         j += 1;
     }
     lost
@@ -56,43 +58,59 @@ fn strike_to(book: &[u8], first: usize, s: usize, y: &[u32; 4], dom: &mut [u32; 
 // Every column of sheet s struck to what its rows carry. The columns that lost a value.
 fn strike(
     book: &[u8],
-    first: usize,
+    begin: usize,
     s: usize,
     dom: &mut [u32; 16],
-    live: &[u64; 64],
+    valid: &[u64; 64],
     index: &[u8; 64],
     nonzero: &[u8; 8],
 ) -> u32
-    requires { ⌜ AtSheet (now book) first s × Inside (now book) s (now live) × IndexOf s (now live) (now index) (now nonzero) × Sized (now live) (now index) (now nonzero) × IsStore 16 (now dom) ⌝ }
-    ensures { λ r. ⌜ Struck (now (book .entry)) s (now (live .entry)) (now (dom .entry)) (now (dom .exit)) r ⌝ }
+    requires { ⌜ AtSheet (now book) begin s × Inside (now book) s (now valid) × IndexOf s (now valid) (now index) (now nonzero) × Sized (now valid) (now index) (now nonzero) × IsStore 16 (now dom) ⌝ }
+    ensures { λ r. ⌜ Struck (now (book .entry)) s (now (valid .entry)) (now (dom .entry)) (now (dom .exit)) r ⌝ }
 {
     let mut x = [1u32; 4];
     let mut y = [0u32; 4];
-    wanted(book, first, s, dom, &mut x);
-    carried(book, first, s, &x, &mut y, live, index, nonzero);
-    strike_to(book, first, s, &y, dom)
+    wanted(book, begin, s, dom, &mut x);
+    carried(book, begin, s, &x, &mut y, valid, index, nonzero);
+    strike_to(book, begin, s, &y, dom)
 }
 
-// Sheet s looked at, whose columns in `changed` lost values since it was last looked at. The columns that lose a value now.
+// What a look at a sheet comes to: whether the sheet can still be satisfied, and the columns that lost a value.
+pub struct Revision {
+    pub satisfied: bool,
+    pub lost: u32,
+}
+
+// Sheet s looked at, whose columns in `changed` lost values since it was last looked at.
 pub fn revise(
     book: &[u8],
-    first: usize,
+    begin: usize,
     s: usize,
     changed: u32,
     opening: bool,
     dom: &mut [u32; 16],
-    live: &mut [u64; 64],
+    valid: &mut [u64; 64],
     index: &mut [u8; 64],
     nonzero: &mut [u8; 8],
-) -> u32
-    requires { ⌜ AtSheet (now book) first s × SheetKnown (now book) s changed (now dom) (now live) (now index) (now nonzero) × Sized (now live) (now index) (now nonzero) × IsStore 16 (now dom) × Carried opening (now book) s (now dom) (now live) ⌝ }
-    ensures { λ r. ⌜ Revised (now (book .entry)) s (now (dom .entry)) (now (live .entry)) (now (index .entry)) (now (nonzero .entry)) (now (dom .exit)) (now (live .exit)) (now (index .exit)) (now (nonzero .exit)) r ⌝ }
+) -> Revision
+    requires { ⌜ AtSheet (now book) begin s × SheetKnown (now book) s changed opening (now dom) (now valid) (now index) (now nonzero) × Sized (now valid) (now index) (now nonzero) × IsStore 16 (now dom) ⌝ }
+    ensures { λ r. ⌜ Revised (now (book .entry)) s (now (dom .entry)) (now (valid .entry)) (now (index .entry)) (now (nonzero .entry)) (now (dom .exit)) (now (valid .exit)) (now (index .exit)) (now (nonzero .exit)) (r .satisfied) (r .lost) ⌝ }
 {
-    if cut_places(book, first, s, changed, opening, dom, live, index, nonzero) {
+    if cut_places(book, begin, s, changed, opening, dom, valid, index, nonzero) {
         if nonzero[s] == 0 {
-            return 0;
+            return Revision {
+                satisfied: false,
+                lost: 0,
+            };
         }
-        return strike(book, first, s, dom, live, index, nonzero);
+        let lost = strike(book, begin, s, dom, valid, index, nonzero);
+        return Revision {
+            satisfied: true,
+            lost: lost,
+        };
     }
-    0
+    Revision {
+        satisfied: true,
+        lost: 0,
+    }
 }

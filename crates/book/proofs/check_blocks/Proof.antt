@@ -2,7 +2,7 @@ use mathlib.Core.Path.{sym, _∙_}
 use native.Mathlib.Omega.{arith}
 use borrow.Author.Needs.{needs}
 use Rattle.model.proofs.Firsts.{firstIn-none}
-use Rattle.book.proofs.Results.{result-check, right-length}
+use Rattle.book.proofs.Verdicts.{result-check, right-length}
 use Rattle.book.proofs.check_blocks.Statement.{statement}
 use Rattle.book.proofs.check_blocks.Tie as tie
 

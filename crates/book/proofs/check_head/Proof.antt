@@ -3,7 +3,7 @@ use Prim.Native.Nat.{_≤_, _<_}
 use native.Mathlib.Omega.{arith}
 use borrow.Author.Needs.{needs}
 use Rattle.model.proofs.Firsts.{firstIn-none}
-use Rattle.book.proofs.Results.{head-there, result-field}
+use Rattle.book.proofs.Verdicts.{head-there, result-field}
 use Rattle.book.proofs.check_head.Statement.{statement}
 use Rattle.book.proofs.check_head.Tie as tie
 

@@ -1,9 +1,9 @@
 use mathlib.Core.Path.{sym, _∙_}
 use native.Mathlib.Omega.{arith}
 use borrow.Author.Needs.{needs}
-use Rattle.book.proofs.Faults.{fault-zero}
-use Rattle.book.proofs.Results.{head-there, result-accepted, result-blocks, result-row}
-use Rattle.book.proofs.Right.{sheets-most}
+use Rattle.book.proofs.Rows.{fault-zero}
+use Rattle.book.proofs.Verdicts.{head-there, result-accepted, result-blocks, result-row}
+use Rattle.book.proofs.Heads.{sheets-most}
 use Rattle.book.proofs.check_rows.Statement.{statement}
 use Rattle.book.proofs.check_rows.Tie as tie
 

@@ -6,8 +6,7 @@ use borrow.Author.Needs.{needs}
 use borrow.Fn.Kinds.{In}
 use borrow.Fn.PlainCycle.{Measures, is, falls, and}
 use Rattle.engine.proofs.Worklists.{sixteen-columns}
-use Rattle.search.proofs.Branches.{Untried, found-assigned, found-none, picked-found, picked-none, picked-value, untried-all, untried-less}
-use Rattle.search.proofs.Filled.{value-fewer, value-filled, value-none, value-ready, value-found, value-small, valuesLeft}
+use Rattle.search.proofs.Searches.{Untried, found-assigned, found-none, picked-found, picked-none, picked-value, untried-all, untried-less, value-fewer, value-filled, value-found, value-none, value-ready, value-small, valuesLeft}
 use Rattle.search.proofs.pick_column.Reads as pick-column
 use Rattle.search.proofs.pick_column.Kinds as pick-column-kinds
 use Rattle.search.proofs.+pick_column+try_value.Lts-pick_column as pick-column-lts
@@ -75,10 +74,10 @@ tries t = (
 )
 
 abbrev pick-column-Inv-loop : pick-column-lts.InvT-loop
-pick-column-Inv-loop book first mask dom live index nonzero c rest₀ rest = Untried book dom c rest
+pick-column-Inv-loop book begins scopes dom valid index nonzero c rest₀ rest = Untried book dom c rest
 
 abbrev pick-column-μ-loop : pick-column-lts.MeasureT-loop
-pick-column-μ-loop book first mask dom live index nonzero c rest₀ rest = rest
+pick-column-μ-loop book begins scopes dom valid index nonzero c rest₀ rest = rest
 
 pick-column-open-column-requires : (t : ℕ) → pick-column-lts.Need-open-column-requires (picks t) (pick-column-at t) pick-column.Post pick-column-Inv-loop pick-column-μ-loop
 pick-column-open-column-requires t c κs = search needs

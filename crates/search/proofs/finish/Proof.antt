@@ -1,6 +1,6 @@
 use native.Mathlib.Omega.{arith}
 use borrow.Author.Needs.{needs}
-use Rattle.search.proofs.Finishing.{finish-failed, finish-filled, finish-found}
+use Rattle.search.proofs.Searches.{finish-failed, finish-filled, finish-found}
 use Rattle.search.proofs.finish.Statement.{statement}
 use Rattle.search.proofs.finish.Tie as tie
 

@@ -4,8 +4,8 @@ use native.Mathlib.Omega.{arith}
 use borrow.Author.Needs.{needs}
 use Rattle.model.specs.Tests.{NoneIn}
 use Rattle.model.proofs.Firsts.{firstIn-end, firstIn-found, none-empty, none-to}
-use Rattle.book.specs.Head.{wrongField}
-use Rattle.book.proofs.Offsets.{field-column}
+use Rattle.book.specs.Heads.{wrongField}
+use Rattle.book.proofs.Heads.{field-column}
 use Rattle.book.proofs.head.first_in_columns.Statement.{statement}
 use Rattle.book.proofs.head.first_in_columns.Tie as tie
 

@@ -2,7 +2,7 @@ use mathlib.Core.Path.{sym}
 use native.Mathlib.Omega.{arith}
 use borrow.Author.Needs.{needs}
 use Rattle.model.proofs.Firsts.{firstIn-join, firstIn-none, firstIn-same, firstIn-wider}
-use Rattle.book.proofs.Offsets.{field-unused}
+use Rattle.book.proofs.Heads.{field-unused}
 use Rattle.book.proofs.head.first_in_entries.Statement.{statement}
 use Rattle.book.proofs.head.first_in_entries.Tie as tie
 

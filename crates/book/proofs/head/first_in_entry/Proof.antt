@@ -2,7 +2,7 @@ use mathlib.Core.Path.{sym, _∙_}
 use native.Mathlib.Nat.{le-refl}
 use borrow.Author.Needs.{needs}
 use Rattle.model.proofs.Firsts.{firstIn-end, firstIn-found, firstIn-join, firstIn-none, firstIn-wider, none-empty, none-join}
-use Rattle.book.proofs.Offsets.{field-five, field-rows, field-width, right-five, right-rows, right-width}
+use Rattle.book.proofs.Heads.{field-five, field-rows, field-width, right-five, right-rows, right-width}
 use Rattle.book.proofs.head.first_in_entry.Statement.{statement}
 use Rattle.book.proofs.head.first_in_entry.Tie as tie
 

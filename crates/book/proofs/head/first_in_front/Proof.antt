@@ -3,7 +3,7 @@ use mathlib.Core.Path.{sym, _∙_}
 use native.Mathlib.Nat.{le-refl}
 use borrow.Author.Needs.{needs}
 use Rattle.model.proofs.Firsts.{firstIn-found, firstIn-join, firstIn-same, none-empty, none-more}
-use Rattle.book.proofs.Offsets.{field-columns, field-letters, field-sheets, field-zero, right-letters}
+use Rattle.book.proofs.Heads.{field-columns, field-letters, field-sheets, field-zero, right-letters}
 use Rattle.book.proofs.head.first_in_front.Statement.{statement}
 use Rattle.book.proofs.head.first_in_front.Tie as tie
 

@@ -5,7 +5,7 @@ use native.Mathlib.Omega.{arith}
 use borrow.Author.Needs.{needs}
 use Rattle.model.specs.Tests.{NoneIn}
 use Rattle.model.proofs.Firsts.{firstIn-end, firstIn-join, firstIn-none, firstIn-wider, none-empty, none-join}
-use Rattle.book.specs.Head.{wrongField}
+use Rattle.book.specs.Heads.{wrongField}
 use Rattle.book.proofs.head.first_in_used.Statement.{statement}
 use Rattle.book.proofs.head.first_in_used.Tie as tie
 

@@ -5,8 +5,8 @@ use native.Mathlib.Omega.{arith}
 use borrow.Author.Needs.{needs}
 use Rattle.model.specs.Tests.{NoneIn}
 use Rattle.model.proofs.Firsts.{firstIn-end, firstIn-found, none-empty, none-to}
-use Rattle.book.specs.Head.{wrongField}
-use Rattle.book.proofs.Offsets.{field-values}
+use Rattle.book.specs.Heads.{wrongField}
+use Rattle.book.proofs.Heads.{field-values}
 use Rattle.book.proofs.head.first_in_values.Statement.{statement}
 use Rattle.book.proofs.head.first_in_values.Tie as tie
 

@@ -1,8 +1,7 @@
 use mathlib.Core.Path.{sym}
 use borrow.Author.Needs.{needs}
 use Rattle.model.proofs.Firsts.{firstIn-join, firstIn-none, firstIn-same, firstIn-wider, none-join}
-use Rattle.book.proofs.Offsets.{field-rest}
-use Rattle.book.proofs.Right.{few-sheets}
+use Rattle.book.proofs.Heads.{few-sheets, field-rest}
 use Rattle.book.proofs.head.first_wrong_field.Statement.{statement}
 use Rattle.book.proofs.head.first_wrong_field.Tie as tie
 

@@ -1,6 +1,6 @@
 use borrow.Author.Needs.{needs}
 use borrow.Author.Tests.{eq-eqb, ne-eqb}
-use Rattle.book.specs.Head.{notRising}
+use Rattle.book.specs.Heads.{notRising}
 use Rattle.book.proofs.head.not_rising.Statement.{statement}
 use Rattle.book.proofs.head.not_rising.Tie as tie
 

@@ -2,7 +2,7 @@ use Prim.Native.Nat.{_≤_, _<_}
 use native.Mathlib.Omega.{arith}
 use borrow.Author.Needs.{needs}
 use borrow.Author.Tests.{lt-ltb, le-ltb, le-leb, lt-leb}
-use Rattle.book.specs.Head.{columnOf, columnsOf, widthOf, wrongColumn}
+use Rattle.book.specs.Heads.{columnOf, columnsOf, widthOf, wrongColumn}
 use Rattle.book.proofs.head.wrong_column.Statement.{statement}
 use Rattle.book.proofs.head.wrong_column.Tie as tie
 

@@ -1,6 +1,6 @@
 use mathlib.Core.Path.{_∙_}
 use borrow.Author.Needs.{needs}
-use Rattle.book.specs.Head.{wrongColumns}
+use Rattle.book.specs.Heads.{wrongColumns}
 use Rattle.book.proofs.head.wrong_columns.Statement.{statement}
 use Rattle.book.proofs.head.wrong_columns.Tie as tie
 

@@ -1,6 +1,6 @@
 use mathlib.Core.Path.{_∙_}
 use borrow.Author.Needs.{needs}
-use Rattle.book.specs.Head.{wrongRows}
+use Rattle.book.specs.Heads.{wrongRows}
 use Rattle.book.proofs.head.wrong_rows.Statement.{statement}
 use Rattle.book.proofs.head.wrong_rows.Tie as tie
 

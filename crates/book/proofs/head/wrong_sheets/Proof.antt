@@ -1,6 +1,6 @@
 use mathlib.Core.Path.{_∙_}
 use borrow.Author.Needs.{needs}
-use Rattle.book.specs.Head.{wrongSheets}
+use Rattle.book.specs.Heads.{wrongSheets}
 use Rattle.book.proofs.head.wrong_sheets.Statement.{statement}
 use Rattle.book.proofs.head.wrong_sheets.Tie as tie
 

@@ -3,7 +3,7 @@ use Prim.Native.Nat.{_≤_, _<_}
 use native.Mathlib.Omega.{arith}
 use borrow.Author.Needs.{needs}
 use borrow.Author.Tests.{lt-ltb, le-ltb}
-use Rattle.book.specs.Head.{columnsOf, wrongValues}
+use Rattle.book.specs.Heads.{columnsOf, wrongValues}
 use Rattle.book.proofs.head.wrong_values.Statement.{statement}
 use Rattle.book.proofs.head.wrong_values.Tie as tie
 

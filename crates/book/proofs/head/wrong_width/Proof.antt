@@ -1,6 +1,6 @@
 use mathlib.Core.Path.{_∙_}
 use borrow.Author.Needs.{needs}
-use Rattle.book.specs.Head.{wrongWidth}
+use Rattle.book.specs.Heads.{wrongWidth}
 use Rattle.book.proofs.head.wrong_width.Statement.{statement}
 use Rattle.book.proofs.head.wrong_width.Tie as tie
 

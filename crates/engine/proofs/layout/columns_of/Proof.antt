@@ -1,9 +1,9 @@
 use Prim.Native.Nat.{_-_, _<_, _≤_}
 use native.Mathlib.Omega.{arith}
 use borrow.Author.Needs.{needs}
-use Rattle.book.specs.Head.{widthOf}
+use Rattle.book.specs.Heads.{widthOf}
 use Rattle.words.proofs.Places.{column-below, eight, head-there, width-most}
-use Rattle.engine.proofs.Turns.{at-sheet}
+use Rattle.engine.proofs.Propagation.{at-sheet}
 use Rattle.engine.proofs.Worklists.{ColumnsTo, columns-end, columns-more, columns-none}
 use Rattle.engine.proofs.layout.columns_of.Statement.{statement}
 use Rattle.engine.proofs.layout.columns_of.Tie as tie

@@ -2,17 +2,17 @@ use mathlib.Core.Path.{_≡_, sym}
 use Prim.Native.Nat.{_*_, _+_, _-_, _<_, _≤_}
 use native.Mathlib.Omega.{arith}
 use borrow.Author.Needs.{needs}
-use Rattle.book.specs.Head.{sheetsOf}
+use Rattle.book.specs.Heads.{sheetsOf}
 use Rattle.words.specs.Sheets.{firstByte}
 use Rattle.engine.proofs.Worklists.{LaidTo, eight-sheets, first-byte, head-length, laid-end, laid-more, laid-none, next-byte, rows-end}
 use Rattle.engine.proofs.layout.lay_out.Statement.{statement}
 use Rattle.engine.proofs.layout.lay_out.Tie as tie
 
 abbrev Inv-loop : tie.InvT-loop
-Inv-loop book first₀ mask₀ n at₀ s₀ first mask at s = LaidTo book s first mask × (s ≤ n) × (at ≡ firstByte book s)
+Inv-loop book begins₀ scopes₀ n at₀ s₀ begins scopes at s = LaidTo book s begins scopes × (s ≤ n) × (at ≡ firstByte book s)
 
 abbrev μ-loop : tie.MeasureT-loop
-μ-loop book first₀ mask₀ n at₀ s₀ first mask at s = n - s
+μ-loop book begins₀ scopes₀ n at₀ s₀ begins scopes at s = n - s
 
 sheets-requires : tie.Need-sheets-requires Inv-loop μ-loop
 sheets-requires c κs = head-length _ (c .before .pre .0)
@@ -20,11 +20,11 @@ sheets-requires c κs = head-length _ (c .before .pre .0)
 loop-holds : tie.Need-loop-holds Inv-loop μ-loop
 loop-holds c = (laid-none _ (c .before .before .pre .1) (c .before .before .pre .2), omega arith, sym (first-byte _ (c .before .before .pre .0)))
 
-mul-first : tie.Need-mul-first Inv-loop μ-loop
-mul-first c = search needs
+mul-begins : tie.Need-mul-begins Inv-loop μ-loop
+mul-begins c = search needs
 
-element-write-first : tie.Need-element-write-first Inv-loop μ-loop
-element-write-first c =
+element-write-begins : tie.Need-element-write-begins Inv-loop μ-loop
+element-write-begins c =
     let start = c .before .before .before .before in
     let l : c .before .loop .s < sheetsOf (start .args .book .now) = omega (arith, c .before .before .sheets .ensures .0, c .loop-test .taken) in
     eight-sheets _ (start .pre .0) _ l
@@ -32,11 +32,11 @@ element-write-first c =
 columns-of-requires : tie.Need-columns-of-requires Inv-loop μ-loop
 columns-of-requires c κs = search needs
 
-mul-mask : tie.Need-mul-mask Inv-loop μ-loop
-mul-mask c = search needs
+mul-scopes : tie.Need-mul-scopes Inv-loop μ-loop
+mul-scopes c = search needs
 
-element-write-mask : tie.Need-element-write-mask Inv-loop μ-loop
-element-write-mask c =
+element-write-scopes : tie.Need-element-write-scopes Inv-loop μ-loop
+element-write-scopes c =
     let start = c .before .before .before .before .before in
     let l : c .before .before .loop .s < sheetsOf (start .args .book .now) = omega (arith, c .before .before .before .sheets .ensures .0, c .before .loop-test .taken) in
     eight-sheets _ (start .pre .0) _ l
@@ -83,5 +83,5 @@ returns c = laid-end (omega (arith, c .before .before .sheets .ensures .0, c .lo
 pub lay-out-spec : {M : Type 1} → statement M
 lay-out-spec =
     tie.close
-    (tie.spec Inv-loop μ-loop sheets-requires loop-holds mul-first element-write-first columns-of-requires mul-mask element-write-mask
+    (tie.spec Inv-loop μ-loop sheets-requires loop-holds mul-begins element-write-begins columns-of-requires mul-scopes element-write-scopes
     blocks-of-requires mul-at add-at add-s loop-less loop-again returns)

@@ -1,5 +1,5 @@
 use native.Mathlib.Omega.{arith}
-use Rattle.engine.proofs.Steps.{outside-mask}
+use Rattle.engine.proofs.Holds.{outside-mask}
 use Rattle.engine.proofs.Worklists.{head-length, sixteen-columns, values-few}
 use Rattle.engine.proofs.orders.outside_column.Statement.{statement}
 use Rattle.engine.proofs.orders.outside_column.Tie as tie

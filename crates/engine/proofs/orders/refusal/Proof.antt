@@ -1,41 +1,51 @@
-use mathlib.Core.Path.{sym}
+use mathlib.Core.Path.{_≡_, _∙_, ap, refl, sym}
+use mathlib.Core.Bool.{Bool}
 use borrow.Author.Needs.{needs}
-use Rattle.model.proofs.Refusals.{refusal-other}
+use Prim.Native.Nat.{ℕ}
+use Rattle.model.specs.Orders.{backCauses, firstCause, kind, markCauses, someWrong, zeroPlaces}
+use Rattle.model.proofs.Refusals.{refusal-back, refusal-finish, refusal-mark, refusal-narrow, refusal-other, refusal-zero}
 use Rattle.engine.proofs.orders.refusal.Statement.{statement}
 use Rattle.engine.proofs.orders.refusal.Tie as tie
 
-shared-slice-read-kind : tie.Need-shared-slice-read-kind
-shared-slice-read-kind c = search needs
+abbrev start : tie.After-some-wrong → tie.Start
+start c = c .before .before .before .before .before
 
-refused-narrow-requires : tie.Need-refused-narrow-requires
-refused-narrow-requires c κs = search needs
+-- what the look at the bytes says
+looked : (c : tie.After-some-wrong) {t : Bool} → c .some-wrong .result ≡ t → someWrong (zeroPlaces (kind (start c .args .order .now))) (start c .args .order .now) ≡ t
+looked c e = rw (← c .before .zero-places .ensures) (sym (c .some-wrong .ensures) ∙ e)
 
 returns : tie.Need-returns
-returns c = λ L d. c .refused-narrow .ensures L (c .before .if1 .taken) d
-
-refused-mark-requires : tie.Need-refused-mark-requires
-refused-mark-requires c κs = search needs
+returns c s d L h = sym (refusal-zero _ L _ (looked (c .before) (c .if1 .taken)))
 
 returns-2 : tie.Need-returns-2
-returns-2 c = λ L d. c .refused-mark .ensures L (c .before .if2 .taken) d
-
-refused-back-requires : tie.Need-refused-back-requires
-refused-back-requires c κs = search needs
+returns-2 c s d L h =
+    let i = c .before .before in c .refused-narrow .ensures ∙ sym (refusal-narrow _ L _ (looked (i .before) (i .if1 .left)) (c .before .if2 .taken))
 
 returns-3 : tie.Need-returns-3
-returns-3 c = λ L d. c .refused-back .ensures L (c .before .if3 .taken) d
-
-refused-finish-requires : tie.Need-refused-finish-requires
-refused-finish-requires c κs = search needs
+returns-3 c s d L h =
+    let i = c .before .before .before in
+    c .refused-mark .ensures
+    ∙ ap (λ (n : ℕ). firstCause (markCauses n)) (sym d ∙ h .deep)
+    ∙ sym (refusal-mark _ L _ (looked (i .before) (i .if1 .left)) (c .before .if3 .taken))
 
 returns-4 : tie.Need-returns-4
-returns-4 c = λ L d. c .refused-finish .ensures L (c .before .if4 .taken) d
+returns-4 c s d L h =
+    let i = c .before .before .before .before in
+    let o : tie.Start = search in
+    c .refused-back .ensures
+    ∙ ap (λ (n : ℕ). firstCause (backCauses n (o .args .order .now))) (sym d ∙ h .deep)
+    ∙ sym (refusal-back _ L _ (looked (i .before) (i .if1 .left)) (c .before .if4 .taken))
 
 returns-5 : tie.Need-returns-5
-returns-5 c = λ L d. sym (refusal-other _ L _ (c .before .before .before .if1 .left) (c .before .before .if2 .left) (c .before .if3 .left) (c .if4 .left))
+returns-5 c s d L h =
+    let i = c .before .before .before .before in
+    sym (refusal-finish _ L _ (c .if5 .taken) ∙ rw (rw (c .if5 .taken) at (looked (i .before) (i .if1 .left))) refl)
+
+returns-6 : tie.Need-returns-6
+returns-6 c s d L h =
+    sym (refusal-other _ L _ (c .before .before .before .if2 .left) (c .before .before .if3 .left) (c .before .if4 .left) (c .if5 .left))
 
 pub refusal-spec : {M : Type 1} → statement M
 refusal-spec =
     tie.close
-    (tie.spec shared-slice-read-kind refused-narrow-requires returns refused-mark-requires returns-2 refused-back-requires returns-3
-    refused-finish-requires returns-4 returns-5)
+    (tie.spec (search needs) (λ c κs. search needs) (λ c κs. search needs) returns (λ c κs. search needs) returns-2 (λ c κs. search needs) returns-3 (λ c κs. search needs) returns-4 returns-5 returns-6)

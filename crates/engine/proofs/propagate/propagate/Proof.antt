@@ -1,25 +1,25 @@
 -- Propagation. The invariant is `Going` (Turns): what no waiting sheet has to look at is settled. A turn looks at one sheet (`going-on`); the values left,
 -- and then the sheets that wait, fall (`going-less`); when none waits the closure is reached (`going-done`).
-use mathlib.Core.Path.{_∙_}
-use mathlib.Core.Logic.{inl}
+use mathlib.Core.Path.{_∙_, refl}
 use Prim.Native.Nat.{_*_, _+_}
 use native.Mathlib.Omega.{arith}
 use lib.ListN.{length-set}
 use lib.Seq.{getD-set-same}
 use borrow.Author.Needs.{needs}
+use borrow.Author.Tests.{not-false, not-true}
 use Rattle.model.specs.Masks.{Cleared}
 use Rattle.model.specs.Stores.{values}
 use Rattle.model.proofs.Masks.{cleared-at}
-use Rattle.engine.proofs.Turns.{Going, at-laid, going-done, going-failed, going-less, going-on, going-start}
+use Rattle.engine.proofs.Propagation.{Going, at-laid, going-done, going-failed, going-less, going-on, going-start, known-as}
 use Rattle.engine.proofs.propagate.propagate.Statement.{statement}
 use Rattle.engine.proofs.propagate.propagate.Tie as tie
 
 abbrev Inv-loop : tie.InvT-loop
-Inv-loop book first mask waiting column opening dom₀ live₀ index₀ nonzero₀ changed₀ left₀ dom live index nonzero changed left =
-    Going book opening dom₀ dom live index nonzero changed left
+Inv-loop book begins scopes waiting column opening dom₀ valid₀ index₀ nonzero₀ changed₀ left₀ dom valid index nonzero changed left =
+    Going book opening dom₀ dom valid index nonzero changed left
 
 abbrev μ-loop : tie.MeasureT-loop
-μ-loop book first mask waiting column opening dom₀ live₀ index₀ nonzero₀ changed₀ left₀ dom live index nonzero changed left =
+μ-loop book begins scopes waiting column opening dom₀ valid₀ index₀ nonzero₀ changed₀ left₀ dom valid index nonzero changed left =
     256 * values 16 dom + left
 
 loop-holds : tie.Need-loop-holds Inv-loop μ-loop
@@ -53,10 +53,7 @@ revise-requires c κs =
     let start = head .before .before in
     let p = start .pre in
     let l = head .loop .inv .used _ (at-first-waiting .first-waiting .ensures .2) in
-    (at-laid _ (p .0) (p .1) _ l, head .loop .inv .sheet _ l, head .loop .inv .sized, head .loop .inv .store, record { at = λ e. head .loop .inv .carried _ l (inl e) })
-
-element-copy-out-if1 : tie.Need-element-copy-out-if1 Inv-loop μ-loop
-element-copy-out-if1 c = search needs
+    (at-laid _ (p .0) (p .1) _ l, known-as (λ e. rw e refl) (head .loop .inv .sheet _ l), head .loop .inv .sized, head .loop .inv .store)
 
 returns : tie.Need-returns Inv-loop μ-loop
 returns c =
@@ -64,7 +61,7 @@ returns c =
     let head = at-first-waiting .before .before in
     let start = head .before .before in
     let p = start .pre in
-    going-failed _ (p .0) (p .1) (head .loop .inv) (at-first-waiting .first-waiting .ensures .2) (c .before .before .revise .ensures) (c .if1 .taken)
+    going-failed _ (p .0) (p .1) (head .loop .inv) (at-first-waiting .first-waiting .ensures .2) (c .before .before .revise .ensures) (not-true _ (c .if1 .taken))
 
 others-requires : tie.Need-others-requires Inv-loop μ-loop
 others-requires c κs = search needs
@@ -98,13 +95,13 @@ cleared c = cleared-at (sheet c .first-waiting .ensures .0) (c .before .others .
 loop-less : tie.Need-loop-less Inv-loop μ-loop
 loop-less c =
     let p = start c .pre in
-    going-less _ (p .0) (p .1) (head c .loop .inv) (sheet c .first-waiting .ensures .2) (look c .revise .ensures) (cleared c) (search needs)
+    going-less _ (p .0) (p .1) (head c .loop .inv) (sheet c .first-waiting .ensures .2) (look c .revise .ensures) (cleared c) (not-false _ (c .before .before .before .if1 .left))
     (omega (arith, c .before .others .ensures .1, head c .loop .inv .small)) (c .wake .ensures) (c .before .others .ensures .1)
 
 loop-again : tie.Need-loop-again Inv-loop μ-loop
 loop-again c =
     let p = start c .pre in
-    going-on _ (p .0) (p .1) (head c .loop .inv) (sheet c .first-waiting .ensures .2) (look c .revise .ensures) (cleared c) (search needs)
+    going-on _ (p .0) (p .1) (head c .loop .inv) (sheet c .first-waiting .ensures .2) (look c .revise .ensures) (cleared c) (not-false _ (c .before .before .before .if1 .left))
     (omega (arith, c .before .others .ensures .1, head c .loop .inv .small)) (c .wake .ensures)
 
 returns-2 : tie.Need-returns-2 Inv-loop μ-loop
@@ -114,4 +111,4 @@ pub propagate-spec : {M : Type 1} → statement M
 propagate-spec =
     tie.close
     (tie.spec Inv-loop μ-loop loop-holds first-waiting-requires mul-seen array-read-seen mul-changed array-write-changed mul-revise
-    element-copy-out-revise revise-requires element-copy-out-if1 returns others-requires wake-requires loop-less loop-again returns-2)
+    element-copy-out-revise revise-requires returns others-requires wake-requires loop-less loop-again returns-2)

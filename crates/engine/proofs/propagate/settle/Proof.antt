@@ -1,5 +1,5 @@
 use borrow.Author.Needs.{needs}
-use Rattle.engine.proofs.Emptied.{settled-failed}
+use Rattle.engine.proofs.Propagation.{settled-failed}
 use Rattle.engine.proofs.propagate.settle.Statement.{statement}
 use Rattle.engine.proofs.propagate.settle.Tie as tie
 

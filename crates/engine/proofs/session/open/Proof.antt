@@ -1,6 +1,6 @@
 use mathlib.Core.Path.{refl}
 use borrow.Author.Needs.{needs}
-use Rattle.engine.proofs.Steps.{open-holds}
+use Rattle.engine.proofs.Holds.{open-holds}
 use Rattle.engine.proofs.session.open.Statement.{statement}
 use Rattle.engine.proofs.session.open.Tie as tie
 

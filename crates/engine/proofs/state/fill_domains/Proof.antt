@@ -2,9 +2,9 @@ use mathlib.Core.Path.{_∙_, _≡_, ap}
 use Prim.Native.Nat.{_-_, _<_, _≤_}
 use native.Mathlib.Omega.{arith}
 use borrow.Author.Needs.{needs}
-use Rattle.book.specs.Head.{columnsOf}
+use Rattle.book.specs.Heads.{columnsOf}
 use Rattle.engine.specs.Openings.{FullDomains, placesBelow}
-use Rattle.engine.proofs.Fills.{domains-more, domains-none}
+use Rattle.engine.proofs.Openings.{domains-more, domains-none}
 use Rattle.engine.proofs.Worklists.{head-length, sixteen-columns, values-few}
 use Rattle.engine.proofs.state.fill_domains.Statement.{statement}
 use Rattle.engine.proofs.state.fill_domains.Tie as tie

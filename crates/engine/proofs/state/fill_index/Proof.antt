@@ -3,7 +3,7 @@ use Prim.Native.Nat.{_-_, _≤_}
 use native.Mathlib.Omega.{arith}
 use borrow.Author.Needs.{needs}
 use Rattle.engine.specs.Openings.{FullIndex}
-use Rattle.engine.proofs.Fills.{index-more}
+use Rattle.engine.proofs.Openings.{index-more}
 use Rattle.engine.proofs.state.fill_index.Statement.{statement}
 use Rattle.engine.proofs.state.fill_index.Tie as tie
 

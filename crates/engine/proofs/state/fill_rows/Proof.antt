@@ -2,18 +2,18 @@ use mathlib.Core.Path.{_≡_, refl}
 use Prim.Native.Nat.{_-_, _<_, _≤_}
 use native.Mathlib.Omega.{arith}
 use borrow.Author.Needs.{needs}
-use Rattle.book.specs.Head.{sheetsOf}
+use Rattle.book.specs.Heads.{sheetsOf}
 use Rattle.engine.specs.Openings.{FullRows}
-use Rattle.engine.proofs.Fills.{rows-more, rows-none}
+use Rattle.engine.proofs.Openings.{rows-more, rows-none}
 use Rattle.engine.proofs.Worklists.{eight-sheets, head-length, rows-few}
 use Rattle.engine.proofs.state.fill_rows.Statement.{statement}
 use Rattle.engine.proofs.state.fill_rows.Tie as tie
 
 abbrev Inv-loop : tie.InvT-loop
-Inv-loop book live₀ nonzero₀ n s₀ live nonzero s = FullRows book s live nonzero × (s ≤ n)
+Inv-loop book valid₀ nonzero₀ n s₀ valid nonzero s = FullRows book s valid nonzero × (s ≤ n)
 
 abbrev μ-loop : tie.MeasureT-loop
-μ-loop book live₀ nonzero₀ n s₀ live nonzero s = n - s
+μ-loop book valid₀ nonzero₀ n s₀ valid nonzero s = n - s
 
 sheets-requires : tie.Need-sheets-requires Inv-loop μ-loop
 sheets-requires c κs = head-length _ (c .before .pre .0)

@@ -3,15 +3,15 @@ use Prim.Native.Nat.{_-_, _≤_}
 use native.Mathlib.Omega.{arith}
 use borrow.Author.Needs.{needs}
 use Rattle.engine.specs.Openings.{FullWords}
-use Rattle.engine.proofs.Fills.{words-more, words-none}
+use Rattle.engine.proofs.Openings.{words-more, words-none}
 use Rattle.engine.proofs.state.fill_words.Statement.{statement}
 use Rattle.engine.proofs.state.fill_words.Tie as tie
 
 abbrev Inv-loop : tie.InvT-loop
-Inv-loop live₀ s n w₀ live w = FullWords live₀ s n w live × (w ≤ 8)
+Inv-loop valid₀ s n w₀ valid w = FullWords valid₀ s n w valid × (w ≤ 8)
 
 abbrev μ-loop : tie.MeasureT-loop
-μ-loop live₀ s n w₀ live w = 8 - w
+μ-loop valid₀ s n w₀ valid w = 8 - w
 
 loop-holds : tie.Need-loop-holds Inv-loop μ-loop
 loop-holds c = (words-none _ _ (c .pre .2), omega arith)
@@ -19,17 +19,17 @@ loop-holds c = (words-none _ _ (c .pre .2), omega arith)
 full-word-requires : tie.Need-full-word-requires Inv-loop μ-loop
 full-word-requires c κs = search needs
 
-mul-live : tie.Need-mul-live Inv-loop μ-loop
-mul-live c = search needs
+mul-valid : tie.Need-mul-valid Inv-loop μ-loop
+mul-valid c = search needs
 
-add-live : tie.Need-add-live Inv-loop μ-loop
-add-live c = search needs
+add-valid : tie.Need-add-valid Inv-loop μ-loop
+add-valid c = search needs
 
-mul-live-2 : tie.Need-mul-live-2 Inv-loop μ-loop
-mul-live-2 c = search needs
+mul-valid-2 : tie.Need-mul-valid-2 Inv-loop μ-loop
+mul-valid-2 c = search needs
 
-element-write-live : tie.Need-element-write-live Inv-loop μ-loop
-element-write-live c = search needs
+element-write-valid : tie.Need-element-write-valid Inv-loop μ-loop
+element-write-valid c = search needs
 
 add-w : tie.Need-add-w Inv-loop μ-loop
 add-w c = search needs
@@ -45,4 +45,4 @@ returns c = let e : c .before .loop .w ≡ 8 = omega (arith, c .loop-test .left,
 
 pub fill-words-spec : {M : Type 1} → statement M
 fill-words-spec =
-    tie.close (tie.spec Inv-loop μ-loop loop-holds full-word-requires mul-live add-live mul-live-2 element-write-live add-w loop-less loop-again returns)
+    tie.close (tie.spec Inv-loop μ-loop loop-holds full-word-requires mul-valid add-valid mul-valid-2 element-write-valid add-w loop-less loop-again returns)

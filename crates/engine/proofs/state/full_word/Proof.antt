@@ -1,6 +1,6 @@
 use native.Mathlib.Omega.{arith}
 use borrow.Author.Needs.{needs}
-use Rattle.engine.proofs.Fills.{word-all, word-none, word-some}
+use Rattle.engine.proofs.Openings.{word-all, word-none, word-some}
 use Rattle.engine.proofs.state.full_word.Statement.{statement}
 use Rattle.engine.proofs.state.full_word.Tie as tie
 

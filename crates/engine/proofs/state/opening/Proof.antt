@@ -1,10 +1,10 @@
 use mathlib.Core.Path.{_∙_, ap}
 use native.Mathlib.Omega.{arith}
 use borrow.Author.Needs.{needs}
-use Rattle.book.proofs.Decoded.{accepted-right}
-use Rattle.book.proofs.Right.{sheets-most}
+use Rattle.book.proofs.Decoding.{accepted-right}
+use Rattle.book.proofs.Heads.{sheets-most}
 use Rattle.engine.specs.Openings.{placesBelow}
-use Rattle.engine.proofs.Fills.{full-ready, opening-state}
+use Rattle.engine.proofs.Openings.{full-ready, opening-state}
 use Rattle.engine.proofs.Worklists.{head-length}
 use Rattle.engine.proofs.state.opening.Statement.{statement}
 use Rattle.engine.proofs.state.opening.Tie as tie

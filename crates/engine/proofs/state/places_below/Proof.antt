@@ -1,6 +1,6 @@
 use mathlib.Core.Path.{sym}
 use borrow.Author.Needs.{needs}
-use Rattle.engine.proofs.Fills.{places-none, places-shifted}
+use Rattle.engine.proofs.Openings.{places-none, places-shifted}
 use Rattle.engine.proofs.state.places_below.Statement.{statement}
 use Rattle.engine.proofs.state.places_below.Tie as tie
 

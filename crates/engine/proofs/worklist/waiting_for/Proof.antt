@@ -8,10 +8,10 @@ use Rattle.engine.proofs.worklist.waiting_for.Statement.{statement}
 use Rattle.engine.proofs.worklist.waiting_for.Tie as tie
 
 abbrev Inv-loop : tie.InvT-loop
-Inv-loop mask lost out₀ f₀ out f = WaitingFor mask lost f out × (f ≤ 8)
+Inv-loop scopes lost out₀ f₀ out f = WaitingFor scopes lost f out × (f ≤ 8)
 
 abbrev μ-loop : tie.MeasureT-loop
-μ-loop mask lost out₀ f₀ out f = 8 - f
+μ-loop scopes lost out₀ f₀ out f = 8 - f
 
 loop-holds : tie.Need-loop-holds Inv-loop μ-loop
 loop-holds c = (waiting-none _ _, omega arith)

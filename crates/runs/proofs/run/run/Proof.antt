@@ -4,7 +4,7 @@ use lib.ListN.{length}
 use borrow.Author.Needs.{needs}
 use denote.Ref.{now}
 use Rattle.runs.specs.Results.{RightInput}
-use Rattle.runs.proofs.Promises.{book-refused, list-refused, result-accepted, right-list, right-zero, space-accepted, space-short}
+use Rattle.runs.proofs.Results.{book-refused, list-refused, result-accepted, right-list, right-zero, space-accepted, space-short}
 use Rattle.runs.proofs.run.run.Statement.{statement}
 use Rattle.runs.proofs.run.run.Tie as tie
 

@@ -11,19 +11,19 @@ use borrow.Author.Needs.{needs}
 use Rattle.model.specs.Tests.{oneIf}
 use Rattle.engine.specs.Holds.{SomeSession, Stepped}
 use Rattle.engine.proofs.Lists.{order-part}
-use Rattle.engine.proofs.Steps.{back-room, mark-room, narrow-inside, step-back, step-mark, step-narrow, step-other, step-refused}
+use Rattle.engine.proofs.Holds.{back-room, mark-room, narrow-inside, step-back, step-mark, step-narrow, step-other, step-refused}
 use Rattle.runs.specs.Runs.{RanTo}
-use Rattle.runs.proofs.Promises.{right-list}
+use Rattle.runs.proofs.Results.{right-list}
 use Rattle.runs.proofs.Runs.{counts-none, counts-one, depth-small, more, opened-long, opened-ran, ran-few, ran-from, ran-room, refuses-small}
 use Rattle.runs.proofs.run.run_orders.Statement.{statement}
 use Rattle.runs.proofs.run.run_orders.Tie as tie
 
 abbrev Inv-loop : tie.InvT-loop
-Inv-loop book orders answers₀ first mask s₀ accepted₀ i₀ answers s accepted i =
+Inv-loop book orders answers₀ begins scopes s₀ accepted₀ i₀ answers s accepted i =
     RanTo book orders answers₀ i s accepted answers × (i ≤ length orders / 8) × (72 * (length orders / 8) + 72 ≤ length answers₀)
 
 abbrev μ-loop : tie.MeasureT-loop
-μ-loop book orders answers₀ first mask s₀ accepted₀ i₀ answers s accepted i = length orders / 8 - i
+μ-loop book orders answers₀ begins scopes s₀ accepted₀ i₀ answers s accepted i = length orders / 8 - i
 
 lay-out-requires : tie.Need-lay-out-requires Inv-loop μ-loop
 lay-out-requires c κs = search needs
@@ -83,7 +83,7 @@ turn c =
     let h = l .inv .0 in (
       omega (arith, test, right-list _ (start c .pre .list)),
       omega (arith, test, l .inv .2, ran-room _ _ _ h (omega (arith, l .inv .1, l .inv .2))),
-      refuses-small _ (h .holds) (c .refusal .ensures),
+      refuses-small _ (h .holds) (c .refusal .ensures _ refl),
       depth-small (h .holds),
     )
 
@@ -116,7 +116,7 @@ mask-of-requires c κs = search needs
 narrow-requires : tie.Need-narrow-requires Inv-loop μ-loop
 narrow-requires c κs =
     let t : tie.After-refusal Inv-loop μ-loop = search in
-    let inside = narrow-inside _ _ _ (t .refusal .ensures) (c .before .before .before .before .before .before .before .if1 .taken) (some t) (c .before .before .before .before .before .if2 .taken) in
+    let inside = narrow-inside _ _ _ (t .refusal .ensures _ refl) (c .before .before .before .before .before .before .before .if1 .taken) (some t) (c .before .before .before .before .before .if2 .taken) in
     (start t .pre .book, laid t .lay-out .ensures, rw (c .before .wide .ensures .0) inside, some t)
 
 -- ---- a mark
@@ -126,7 +126,7 @@ shared-slice-read-if3 c = search needs
 mark-requires : tie.Need-mark-requires Inv-loop μ-loop
 mark-requires c κs =
     let t : tie.After-refusal Inv-loop μ-loop = search in
-    mark-room _ _ _ (t .refusal .ensures) (c .before .before .before .before .if1 .taken) (some t) (c .if3 .taken)
+    mark-room _ _ _ (t .refusal .ensures _ refl) (c .before .before .before .before .if1 .taken) (some t) (c .if3 .taken)
 
 -- ---- a back
 shared-slice-read-if4 : tie.Need-shared-slice-read-if4 Inv-loop μ-loop
@@ -141,14 +141,14 @@ wide-requires-2 c κs = search needs
 back-requires : tie.Need-back-requires Inv-loop μ-loop
 back-requires c κs =
     let t : tie.After-refusal Inv-loop μ-loop = search in
-    rw (c .wide2 .ensures .0) (back-room _ _ _ (t .refusal .ensures) (c .before .before .before .before .before .before .before .before .if1 .taken) (some t) (c .before .before .if4 .taken))
+    rw (c .wide2 .ensures .0) (back-room _ _ _ (t .refusal .ensures _ refl) (c .before .before .before .before .before .before .before .before .if1 .taken) (some t) (c .before .before .if4 .taken))
 
 -- ---- its answer
 stepped : (c : tie.Joined1 Inv-loop μ-loop)
     → let t = c .before in Stepped (start t .args .book .now) (head t .loop .s) (bytes t) (c .if1 .s) × (c .if1 .accepted ≡ head t .loop .accepted + oneIf (eqb (t .refusal .result) 0))
 stepped c =
     let t : tie.After-refusal Inv-loop μ-loop = search in
-    let f = t .refusal .ensures in
+    let f = t .refusal .ensures (head t .loop .s) refl in
     ⊎-elim (λ w. (
       rw (w .9) (step-narrow _ _ _ f (w .0 .taken) _ (w .2 .taken) (w .6 .ensures .0) (w .7 .ensures) (w .8 .ensures)),
       w .10 ∙ counts-one _ (w .0 .taken),
@@ -188,7 +188,7 @@ loop-again c =
     let j : tie.Joined1 Inv-loop μ-loop = search in
     let s = stepped j in
     let test = t .before .before .loop-test .taken in (
-      more _ _ _ (order-part (start t .args .orders .now) (l .i) _ _ refl refl) (omega (arith, test, l .inv .2)) (l .inv .0) (t .refusal .ensures)
+      more _ _ _ (order-part (start t .args .orders .now) (l .i) _ _ refl refl) (omega (arith, test, l .inv .2)) (l .inv .0) (t .refusal .ensures _ refl)
           (s .0) (s .1) (c .before .before .show-order .ensures),
       omega (arith, test),
       l .inv .2,

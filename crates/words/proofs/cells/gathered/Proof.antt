@@ -24,7 +24,7 @@ returns : tie.Need-returns
 returns c =
     let at-gathered-near = c .before in
     let start = at-gathered-near .before .before .before in (
-      gathered-near (start .args .book .now) (start .args .first) (start .args .w) (start .args .word) (start .pre .0) (start .fits .word .fits) (c .if1 .taken) (at-gathered-near .gathered-near .ensures .0),
+      gathered-near (start .args .book .now) (start .args .begin) (start .args .w) (start .args .word) (start .pre .0) (start .fits .word .fits) (c .if1 .taken) (at-gathered-near .gathered-near .ensures .0),
       at-gathered-near .gathered-near .ensures .1,
     )
 
@@ -40,7 +40,7 @@ add-requires c κs = search needs
 returns-2 : tie.Need-returns-2
 returns-2 c =
     let start = c .before .before .before .before .before .before .before in (
-      gathered-both (start .args .book .now) (start .args .first) (start .args .w) (start .args .word) (start .pre .0) (start .fits .word .fits) (c .before .before .before .before .gathered-near .ensures .0) (of-added (c .before .gathered-far .ensures) (c .add .ensures)),
+      gathered-both (start .args .book .now) (start .args .begin) (start .args .w) (start .args .word) (start .pre .0) (start .fits .word .fits) (c .before .before .before .before .gathered-near .ensures .0) (of-added (c .before .gathered-far .ensures) (c .add .ensures)),
       c .add .ensures .small,
     )
 

@@ -8,10 +8,10 @@ use Rattle.words.proofs.cells.gathered_far.Statement.{statement}
 use Rattle.words.proofs.cells.gathered_far.Tie as tie
 
 abbrev Inv-loop : tie.InvT-loop
-Inv-loop book first from word left₀ g₀ left g = GatheredOf (λ k j. cellAt book first (from + k) j) (passed word left) (fourOf 0 0 0 0) (fourOf (g .a) (g .b) (g .c) (g .d)) × Part left word
+Inv-loop book begin from word left₀ g₀ left g = GatheredOf (λ k j. cellAt book begin (from + k) j) (passed word left) (fourOf 0 0 0 0) (fourOf (g .a) (g .b) (g .c) (g .d)) × Part left word
 
 abbrev μ-loop : tie.MeasureT-loop
-μ-loop book first from word left₀ g₀ left g = left
+μ-loop book begin from word left₀ g₀ left g = left
 
 loop-holds : tie.Need-loop-holds Inv-loop μ-loop
 loop-holds c = (of-none _ _ (passed-start _), whole _)

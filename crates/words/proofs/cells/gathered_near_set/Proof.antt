@@ -1,7 +1,7 @@
 use Prim.Native.Nat.{_*_, _+_}
 use borrow.Author.Needs.{needs}
 use Rattle.model.proofs.Masks.{cleared-at}
-use Rattle.book.specs.Fields.{byteAt}
+use Rattle.fields.specs.Bytes.{byteAt}
 use Rattle.words.specs.Cells.{GatheredOf, fourOf}
 use Rattle.words.proofs.Collects.{of-all, of-none, of-turn, passed, passed-start}
 use Rattle.words.proofs.Walks.{Part, whole}

@@ -3,7 +3,7 @@ use Prim.Native.Nat.{_*_, _+_, _-_, _≤_, ℕ}
 use native.Mathlib.Omega.{arith}
 use lib.Dec.{ltb}
 use borrow.Author.Needs.{needs}
-use Rattle.book.specs.Fields.{byteAt}
+use Rattle.fields.specs.Bytes.{byteAt}
 use Rattle.words.specs.Cells.{GatheredOf, fourOf}
 use Rattle.words.proofs.Collects.{of-none, of-row, of-same, run-more, run-none}
 use Rattle.words.proofs.cells.gathered_run.Statement.{statement}

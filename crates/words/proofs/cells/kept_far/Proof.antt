@@ -6,10 +6,10 @@ use Rattle.words.proofs.cells.kept_far.Statement.{statement}
 use Rattle.words.proofs.cells.kept_far.Tie as tie
 
 abbrev Inv-loop : tie.InvT-loop
-Inv-loop book first from j d word left₀ keep₀ left keep = Walked (farIn book first from j d) word left keep × Part left word
+Inv-loop book begin from j d word left₀ keep₀ left keep = Walked (farIn book begin from j d) word left keep × Part left word
 
 abbrev μ-loop : tie.MeasureT-loop
-μ-loop book first from j d word left₀ keep₀ left keep = left
+μ-loop book begin from j d word left₀ keep₀ left keep = left
 
 loop-holds : tie.Need-loop-holds Inv-loop μ-loop
 loop-holds c = (walked-start _ _, whole _)

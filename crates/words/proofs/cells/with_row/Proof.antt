@@ -3,7 +3,7 @@ use Prim.Native.Nat.{_+_, _<_, _^_, ℕ}
 use native.Mathlib.Omega.{arith}
 use lib.Bits.{bitOr}
 use borrow.Author.Needs.{needs}
-use Rattle.book.specs.Fields.{byteAt}
+use Rattle.fields.specs.Bytes.{byteAt}
 use Rattle.words.proofs.Walks.{low-five}
 use Rattle.words.proofs.cells.with_row.Statement.{statement}
 use Rattle.words.proofs.cells.with_row.Tie as tie

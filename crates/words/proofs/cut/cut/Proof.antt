@@ -9,10 +9,10 @@ use Rattle.words.proofs.cut.cut.Statement.{statement}
 use Rattle.words.proofs.cut.cut.Tie as tie
 
 abbrev Inv-loop : tie.InvT-loop
-Inv-loop book first s j d live₀ index₀ nonzero₀ any₀ p₀ live index nonzero any p = Cutting book s p j d live₀ index₀ nonzero₀ live index nonzero any × Inside book s live
+Inv-loop book begin s j d valid₀ index₀ nonzero₀ any₀ p₀ valid index nonzero any p = Cutting book s p j d valid₀ index₀ nonzero₀ valid index nonzero any × Inside book s valid
 
 abbrev μ-loop : tie.MeasureT-loop
-μ-loop book first s j d live₀ index₀ nonzero₀ any₀ p₀ live index nonzero any p = p
+μ-loop book begin s j d valid₀ index₀ nonzero₀ any₀ p₀ valid index nonzero any p = p
 
 nonzero-words-requires : tie.Need-nonzero-words-requires Inv-loop μ-loop
 nonzero-words-requires c κs = eight (c .before .before .pre .0)

@@ -4,7 +4,7 @@ use Prim.Native.Nat.{_-_, _≤_}
 use native.Mathlib.Omega.{arith}
 use borrow.Author.Needs.{needs}
 use Rattle.model.proofs.Tests.{or-false-l, or-false-r}
-use Rattle.book.specs.Head.{widthOf}
+use Rattle.book.specs.Heads.{widthOf}
 use Rattle.words.specs.Sheets.{CutBy, Inside, passesBelow}
 use Rattle.words.proofs.Cuts.{cut-inside, cut-more, cut-none}
 use Rattle.words.proofs.Places.{eight, head-there}
@@ -12,10 +12,10 @@ use Rattle.words.proofs.cut.cut_places.Statement.{statement}
 use Rattle.words.proofs.cut.cut_places.Tie as tie
 
 abbrev Inv-loop : tie.InvT-loop
-Inv-loop book first s changed opening dom live₀ index₀ nonzero₀ k any₀ j₀ live index nonzero any j = CutBy (passesBelow book s changed dom j) s live₀ index₀ nonzero₀ live index nonzero × Inside book s live × (j ≤ k) × (any ≡ false → (opening ≡ false) × (live ≡ live₀))
+Inv-loop book begin s changed opening dom valid₀ index₀ nonzero₀ k any₀ j₀ valid index nonzero any j = CutBy (passesBelow book s changed dom j) s valid₀ index₀ nonzero₀ valid index nonzero × Inside book s valid × (j ≤ k) × (any ≡ false → (opening ≡ false) × (valid ≡ valid₀))
 
 abbrev μ-loop : tie.MeasureT-loop
-μ-loop book first s changed opening dom live₀ index₀ nonzero₀ k any₀ j₀ live index nonzero any j = k - j
+μ-loop book begin s changed opening dom valid₀ index₀ nonzero₀ k any₀ j₀ valid index nonzero any j = k - j
 
 width-requires : tie.Need-width-requires Inv-loop μ-loop
 width-requires c κs = (head-there (c .before .pre .0), eight (c .before .pre .0))

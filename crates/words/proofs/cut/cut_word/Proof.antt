@@ -42,11 +42,11 @@ returns c =
       λ e. refl,
     )
 
-mul-live : tie.Need-mul-live
-mul-live c = let q = eight (c .before .before .before .before .before .before .pre .0) in search (needs, q, c .before .before .before .word-number .ensures .1)
+mul-valid : tie.Need-mul-valid
+mul-valid c = let q = eight (c .before .before .before .before .before .before .pre .0) in search (needs, q, c .before .before .before .word-number .ensures .1)
 
-element-write-live : tie.Need-element-write-live
-element-write-live c = let q = eight (c .before .before .before .before .before .before .pre .0) in omega (arith, c .before .before .before .word-number .ensures .1)
+element-write-valid : tie.Need-element-write-valid
+element-write-valid c = let q = eight (c .before .before .before .before .before .before .pre .0) in omega (arith, c .before .before .before .word-number .ensures .1)
 
 drop-word-requires : tie.Need-drop-word-requires
 drop-word-requires c κs =
@@ -76,5 +76,5 @@ returns-3 c =
 pub cut-word-spec : {M : Type 1} → statement M
 cut-word-spec =
     tie.close
-    (tie.spec word-number-requires mul-at add-at mul-word element-copy-out-word kept-requires returns mul-live element-write-live
+    (tie.spec word-number-requires mul-at add-at mul-word element-copy-out-word kept-requires returns mul-valid element-write-valid
     drop-word-requires returns-2 returns-3)

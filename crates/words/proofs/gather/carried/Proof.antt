@@ -10,10 +10,10 @@ use Rattle.words.proofs.gather.carried.Statement.{statement}
 use Rattle.words.proofs.gather.carried.Tie as tie
 
 abbrev Inv-loop : tie.InvT-loop
-Inv-loop book first s x seen₀ live index nonzero n p₀ seen p = Supporting book s p live index seen × SmallSets seen × (p ≤ n)
+Inv-loop book begin s x seen₀ valid index nonzero n p₀ seen p = Supporting book s p valid index seen × SmallSets seen × (p ≤ n)
 
 abbrev μ-loop : tie.MeasureT-loop
-μ-loop book first s x seen₀ live index nonzero n p₀ seen p = n - p
+μ-loop book begin s x seen₀ valid index nonzero n p₀ seen p = n - p
 
 nonzero-words-requires : tie.Need-nonzero-words-requires Inv-loop μ-loop
 nonzero-words-requires c κs = eight (c .before .pre .0)

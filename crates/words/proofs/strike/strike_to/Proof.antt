@@ -2,7 +2,7 @@ use mathlib.Core.Path.{_≡_}
 use Prim.Native.Nat.{_-_, _<_, _≤_}
 use native.Mathlib.Omega.{arith}
 use borrow.Author.Needs.{needs}
-use Rattle.book.specs.Head.{widthOf}
+use Rattle.book.specs.Heads.{widthOf}
 use Rattle.words.specs.Sheets.{StruckTo}
 use Rattle.words.proofs.Places.{eight, head-there, width-most}
 use Rattle.words.proofs.Strikes.{struck-more, struck-none}
@@ -10,10 +10,10 @@ use Rattle.words.proofs.strike.strike_to.Statement.{statement}
 use Rattle.words.proofs.strike.strike_to.Tie as tie
 
 abbrev Inv-loop : tie.InvT-loop
-Inv-loop book first s y dom₀ k lost₀ j₀ dom lost j = StruckTo book s j y dom₀ dom lost × (j ≤ k)
+Inv-loop book begin s y dom₀ k lost₀ j₀ dom lost j = StruckTo book s j y dom₀ dom lost × (j ≤ k)
 
 abbrev μ-loop : tie.MeasureT-loop
-μ-loop book first s y dom₀ k lost₀ j₀ dom lost j = k - j
+μ-loop book begin s y dom₀ k lost₀ j₀ dom lost j = k - j
 
 width-requires : tie.Need-width-requires Inv-loop μ-loop
 width-requires c κs = (head-there (c .before .pre .0), eight (c .before .pre .0))

@@ -1,7 +1,7 @@
 use Prim.Native.Nat.{_<_}
 use native.Mathlib.Omega.{arith}
 use borrow.Author.Needs.{needs}
-use Rattle.book.specs.Head.{widthOf}
+use Rattle.book.specs.Heads.{widthOf}
 use Rattle.words.proofs.Places.{column-below, eight, head-there}
 use Rattle.words.proofs.Strikes.{struck-all, struck-past, struck-some}
 use Rattle.words.proofs.strike.struck.Statement.{statement}

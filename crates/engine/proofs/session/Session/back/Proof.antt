@@ -1,6 +1,6 @@
 use mathlib.Core.Path.{refl}
 use borrow.Author.Needs.{needs}
-use Rattle.engine.proofs.Steps.{back-holds}
+use Rattle.engine.proofs.Holds.{back-holds}
 use Rattle.engine.proofs.session.Session.back.Statement.{statement}
 use Rattle.engine.proofs.session.Session.back.Tie as tie
 

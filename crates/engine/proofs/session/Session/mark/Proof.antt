@@ -1,6 +1,6 @@
 use mathlib.Core.Path.{refl}
 use borrow.Author.Needs.{needs}
-use Rattle.engine.proofs.Steps.{mark-holds}
+use Rattle.engine.proofs.Holds.{mark-holds}
 use Rattle.engine.proofs.session.Session.mark.Statement.{statement}
 use Rattle.engine.proofs.session.Session.mark.Tie as tie
 

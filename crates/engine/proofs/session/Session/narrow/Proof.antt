@@ -1,5 +1,5 @@
 use mathlib.Core.Path.{refl}
-use Rattle.engine.proofs.Steps.{narrow-holds}
+use Rattle.engine.proofs.Holds.{narrow-holds}
 use Rattle.engine.proofs.session.Session.narrow.Statement.{statement}
 use Rattle.engine.proofs.session.Session.narrow.Tie as tie
 

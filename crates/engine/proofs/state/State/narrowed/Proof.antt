@@ -3,7 +3,7 @@
 use Prim.Native.Nat.{_<_}
 use borrow.Author.Needs.{needs}
 use Rattle.model.proofs.Tests.{positive}
-use Rattle.engine.proofs.Narrowings.{state-emptied, state-same}
+use Rattle.engine.proofs.Sessions.{state-emptied, state-same}
 use Rattle.engine.proofs.Worklists.{sixteen-columns}
 use Rattle.engine.proofs.state.State.narrowed.Statement.{statement}
 use Rattle.engine.proofs.state.State.narrowed.Tie as tie

@@ -3,7 +3,7 @@
 use Prim.Native.Nat.{_<_}
 use native.Mathlib.Omega.{arith}
 use borrow.Author.Needs.{needs}
-use Rattle.engine.proofs.Narrowings.{narrow-ready, state-settled}
+use Rattle.engine.proofs.Sessions.{narrow-ready, state-settled}
 use Rattle.engine.proofs.Worklists.{sixteen-columns}
 use Rattle.engine.proofs.state.State.propagated.Statement.{statement}
 use Rattle.engine.proofs.state.State.propagated.Tie as tie

@@ -1,0 +1,173 @@
+-- An accepted book has nothing wrong in it, and stands for a well-formed book. Assumes nothing.
+use mathlib.Core.Path.{_∙_, _≡_, ap, ap₂, sym}
+use mathlib.Core.Bool.{false, true}
+use mathlib.Core.Logic.{_⊎_, inl, inr}
+use mathlib.Core.List.{List, List·Memᴰ, List·Memᴰ·head, List·Memᴰ·not-nil, List·Memᴰ·tail, []}
+use Prim.Native.Nat.{_%_, _*_, _+_, _/_, _<_, _≤_, suc, zero, ℕ}
+use native.Mathlib.Omega.{arith}
+use lib.Dec.{eqb}
+use lib.ListN.{length}
+use borrow.Author.Tests.{eqb-false, eqb-true, leb-false, lt-ltb}
+use Rattle.fields.specs.Bytes.{byteAt}
+use Rattle.model.specs.Books.{WellFormed, WellFormedSheet}
+use Rattle.model.specs.Tests.{NoneIn, tab}
+use Rattle.model.proofs.Firsts.{any-none, lowest-firstIn, lowest-none}
+use Rattle.model.proofs.Tests.{below, either, getD-tab, length-tab}
+use Rattle.book.specs.Blocks.{RightChecks, RightLength, blockCount, wrongLength}
+use Rattle.book.specs.Decoding.{AcceptedWellFormed, bookOf, rowOf, sheetOf}
+use Rattle.book.specs.Heads.{RightHead, columnOf, columnsOf, rowsOf, sheetsOf, valuesOf, widthOf}
+use Rattle.book.specs.Rows.{blockOf, blocksNeeded, blocksOf, boundOf, clean, firstBlock, firstFault, placeBound, rowPlace, wrongBlock, wrongByte, wrongSheet}
+use Rattle.book.specs.Verdicts.{Accepted, checkResult, refused}
+use Rattle.book.proofs.Rows.{clean-none, fault-zero, firstBlock-later}
+use Rattle.book.proofs.Verdicts.{result-accepted, result-blocks, result-check, result-field, result-length, result-row, right-length}
+use Rattle.book.proofs.Heads.{column-inside, column-rises, columns-range, rows-most, sheets-most, values-range, width-range}
+
+-- ---- nothing is wrong
+pub record RightBook (b : List ℕ) : Type 0 where
+  pub length-right : RightLength b
+  pub checks : RightChecks b
+  pub head : RightHead b
+  pub blocks : blocksNeeded b ≡ blockCount b
+  pub rows : firstFault b ≡ clean
+
+-- a number that is a refusal's is no accepted one
+refuses : (b : List ℕ) (n place : ℕ) → Accepted b → 1 ≤ n → checkResult b ≡ refused n place → ⊥
+refuses b n place a h e = omega arith
+
+module _ (b : List ℕ) (a : Accepted b) where
+  right1 : wrongLength b ≡ false
+  right1 = go (either (wrongLength b))
+    where
+      go : (wrongLength b ≡ true) ⊎ (wrongLength b ≡ false) → wrongLength b ≡ false
+      go (inl e) = absurd (refuses b 1 0 a (omega arith) (result-length b e))
+      go (inr e) = e
+
+  right2 : RightChecks b
+  right2 = lowest-none (blockCount b) (λ l. refuses b 2 _ a (omega arith) (result-check b right1 _ (lowest-firstIn (blockCount b)) l))
+
+  right3 : RightHead b
+  right3 = lowest-none 508 (λ l. refuses b 3 _ a (omega arith) (result-field b right1 right2 _ (lowest-firstIn 508) l))
+
+  right4 : blocksNeeded b ≡ blockCount b
+  right4 = go (either (eqb (blocksNeeded b) (blockCount b)))
+    where
+      go : (eqb (blocksNeeded b) (blockCount b) ≡ true) ⊎ (eqb (blocksNeeded b) (blockCount b) ≡ false) → blocksNeeded b ≡ blockCount b
+      go (inl e) = eqb-true (blocksNeeded b) (blockCount b) e
+      go (inr e) = absurd (refuses b 4 _ a (omega arith) (result-blocks b right1 right2 right3 (eqb-false (blocksNeeded b) (blockCount b) e)))
+
+  right5 : firstFault b ≡ clean
+  right5 = go (either (eqb (blockOf (firstFault b)) 0))
+    where
+      go : (eqb (blockOf (firstFault b)) 0 ≡ true) ⊎ (eqb (blockOf (firstFault b)) 0 ≡ false) → firstFault b ≡ clean
+      go (inl e) = fault-zero b (eqb-true (blockOf (firstFault b)) 0 e)
+      go (inr e) = absurd (refuses b 5 _ a (omega arith) (result-row b right1 right2 right3 right4 (eqb-false (blockOf (firstFault b)) 0 e)))
+
+  pub accepted-right : RightBook b
+  accepted-right = record { length-right = right1; checks = right2; head = right3; blocks = right4; rows = right5 }
+
+-- ---- so every row value is below its column's V
+module _ (b : List ℕ) (h : RightBook b) where
+  no-wrong-sheet : NoneIn (wrongSheet b) 0 (sheetsOf b)
+  no-wrong-sheet = clean-none b (h .rows)
+
+  module _ (s : ℕ) (used : s < sheetsOf b) where
+    no-wrong-byte : (q i : ℕ) → q < blocksOf b s → i < 508 → wrongByte b s q i ≡ false
+    unfolding wrongSheet wrongBlock
+    no-wrong-byte q i p l =
+        any-none (any-none (no-wrong-sheet .at s (omega arith) used) .at q (omega arith) p) .at i (omega arith) l
+
+    -- byte j of row r, which is used, is below its bound
+    pub byte-below : (r j : ℕ) → r < rowsOf b s → j < 4 → byteAt b (rowPlace b s r + j) < placeBound b s j
+    unfolding wrongByte boundOf rowPlace blocksOf
+    byte-below r j p l =
+        let er : 127 * (r / 127) + (4 * (r % 127) + j) / 4 ≡ r = omega arith in
+        let ej : (4 * (r % 127) + j) % 4 ≡ j = omega arith in
+        let ep : 512 * (firstBlock b s + r / 127) + (4 * (r % 127) + j) ≡ 512 * (firstBlock b s + r / 127) + 4 * (r % 127) + j = omega arith in
+        let e = no-wrong-byte (r / 127) (4 * (r % 127) + j) (omega arith) (omega arith) in
+        leb-false _ _ (rw (er, ej, lt-ltb r (rowsOf b s) p, ep) at e)
+
+    -- at a place of the width that is its column's V
+    pub value-below : (r j : ℕ) → r < rowsOf b s → j < widthOf b s → byteAt b (rowPlace b s r + j) < valuesOf b (columnOf b s j)
+    unfolding placeBound
+    value-below r j p l =
+        rw (lt-ltb j (widthOf b s) l) at (byte-below r j p (omega (arith, width-range b (h .head) s used .1)))
+
+    -- a row that is used is there
+    pub row-inside : (r : ℕ) → r < rowsOf b s → rowPlace b s r + 3 < length b
+    unfolding rowPlace blocksOf blocksNeeded
+    row-inside r p = omega (arith, right-length b (h .length-right), h .blocks, firstBlock-later b s (sheetsOf b) used)
+
+-- ---- the decoded book
+-- an element of a table is one of its function's values
+pub tab-mem : {A : Type 0} (n : ℕ) (f : ℕ → A) (x : A) → List·Memᴰ x (tab n f) → (i : ℕ) × (i < n) × (x ≡ f i)
+unfolding tab
+tab-mem zero f x m = absurd (List·Memᴰ·not-nil m)
+tab-mem (suc n) f x (List·Memᴰ·head e) = (0, omega arith, e)
+tab-mem (suc n) f x (List·Memᴰ·tail m) = let r = tab-mem n (λ i. f (suc i)) x m in (suc (r .0), omega (arith, r .1), r .2)
+
+module _ (b : List ℕ) (h : RightBook b) (s : ℕ) (used : s < sheetsOf b) where
+  pub rises : (i j : ℕ) → i < j → j < widthOf b s → columnOf b s i < columnOf b s j
+  rises i zero l p = absurd (omega arith)
+  rises i (suc j) l p = go (below i j) (rises i j)
+    where
+      step : columnOf b s j < columnOf b s (suc j)
+      step = column-rises b (h .head) s used j p
+
+      go : (i < j) ⊎ (j ≤ i) → (i < j → j < widthOf b s → columnOf b s i < columnOf b s j) → columnOf b s i < columnOf b s (suc j)
+      go (inl k) r = omega (arith, r k (omega arith), step)
+      go (inr k) r = let e : i ≡ j = omega arith in omega (arith, ap (columnOf b s) e, step)
+
+  sheet-formed : WellFormedSheet (bookOf b .counts) (sheetOf b s)
+  unfolding bookOf sheetOf rowOf
+  sheet-formed = record {
+    some-column = omega (arith, length-tab (widthOf b s) (columnOf b s), width-range b (h .head) s used .0);
+    few-columns = omega (arith, length-tab (widthOf b s) (columnOf b s), width-range b (h .head) s used .1);
+    rising = λ i j l p.
+        let q : j < widthOf b s = omega (arith, length-tab (widthOf b s) (columnOf b s)) in
+        rw (getD-tab 0 (widthOf b s) (columnOf b s) i (omega arith), getD-tab 0 (widthOf b s) (columnOf b s) j q) (rises i j l q);
+    inside = λ i p.
+        let q : i < widthOf b s = omega (arith, length-tab (widthOf b s) (columnOf b s)) in
+        rw (getD-tab 0 (widthOf b s) (columnOf b s) i q, length-tab (columnsOf b) (valuesOf b)) (column-inside b (h .head) s used i q);
+    few-rows = omega (arith, length-tab (rowsOf b s) (rowOf b s), rows-most b (h .head) s used);
+    row-size = λ r p.
+        let q : r < rowsOf b s = omega (arith, length-tab (rowsOf b s) (rowOf b s)) in
+        rw (getD-tab [] (rowsOf b s) (rowOf b s) r q) (length-tab (widthOf b s) _ ∙ sym (length-tab (widthOf b s) (columnOf b s)));
+    row-value = λ r i p l.
+        let q : r < rowsOf b s = omega (arith, length-tab (rowsOf b s) (rowOf b s)) in
+        let k : i < widthOf b s = omega (arith, length-tab (widthOf b s) (columnOf b s)) in
+        rw (
+          getD-tab [] (rowsOf b s) (rowOf b s) r q,
+          getD-tab 0 (widthOf b s) (λ j. byteAt b (rowPlace b s r + j)) i k,
+          getD-tab 0 (widthOf b s) (columnOf b s) i k,
+          getD-tab 0 (columnsOf b) (valuesOf b) (columnOf b s i) (column-inside b (h .head) s used i k),
+        )
+        (value-below b h s used r i q k);
+  }
+
+pub right-formed : (b : List ℕ) → RightBook b → WellFormed (bookOf b)
+unfolding bookOf
+right-formed b h = record {
+  some-column = omega (arith, length-tab (columnsOf b) (valuesOf b), columns-range b (h .head) .0);
+  few-columns = omega (arith, length-tab (columnsOf b) (valuesOf b), columns-range b (h .head) .1);
+  few-sheets = omega (arith, length-tab (sheetsOf b) (sheetOf b), sheets-most b (h .head));
+  some-value = λ c p.
+      let q : c < columnsOf b = omega (arith, length-tab (columnsOf b) (valuesOf b)) in
+      rw (getD-tab 0 (columnsOf b) (valuesOf b) c q) (values-range b (h .head) c q .0);
+  few-values = λ c p.
+      let q : c < columnsOf b = omega (arith, length-tab (columnsOf b) (valuesOf b)) in
+      rw (getD-tab 0 (columnsOf b) (valuesOf b) c q) (values-range b (h .head) c q .1);
+  sheet = λ s m.
+      let r = tab-mem (sheetsOf b) (sheetOf b) s m in rw (r .2) (sheet-formed b h (r .0) (r .1));
+}
+
+-- the statement of specs/Decoding.antt
+pub acceptedWellFormed : AcceptedWellFormed
+unfolding bookOf
+acceptedWellFormed b a =
+    let h = accepted-right b a in
+    record {
+      well-formed = right-formed b h;
+      figure =
+          result-accepted b (h .length-right) (h .checks) (h .head) (h .blocks) (h .rows)
+          ∙ sym (ap₂ (λ (c s : ℕ). c * 16 + s) (length-tab (columnsOf b) (valuesOf b)) (length-tab (sheetsOf b) (sheetOf b)));
+    }

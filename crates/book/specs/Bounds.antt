@@ -1,0 +1,79 @@
+-- What the inner functions of the check promise: how they look at a block. The promise of the check does not speak of these, so a reader of
+-- it may pass over this page.
+use mathlib.Core.Path.{_≡_}
+use mathlib.Core.Bool.{Bool, cond, _&&_, _||_}
+use mathlib.Core.List.{List}
+use Prim.Native.Nat.{ℕ, zero, suc, _+_, _*_, _-_, _/_, _%_, _^_, _≤_, _<_}
+use lib.Dec.{eqb, ltb, leb}
+use lib.Bits.{bitOr}
+use lib.ListN.{length}
+use Rattle.model.specs.Masks.{bit}
+use Rattle.book.specs.Blocks.{word}
+use Rattle.fields.specs.Bytes.{byteAt}
+use Rattle.book.specs.Limits.{setAt}
+use Rattle.book.specs.Rows.{blocksOf, firstBlock, placeBound}
+
+-- ---- a block and its bounds
+-- number j of w, x, y, z
+abbrev pub fourth : ℕ → ℕ → ℕ → ℕ → ℕ → ℕ
+fourth w x y z j = cond (eqb j 0) w (cond (eqb j 1) x (cond (eqb j 2) y z))
+
+-- how many rows of block q are used where the sheet has n
+abbrev pub usedRows : ℕ → ℕ → ℕ
+usedRows n q = cond (ltb (n - 127 * q) 127) (n - 127 * q) 127
+
+-- byte i of a block is wrong where its rows' bytes have to be below w, x, y, z, and its first n bytes are those of used rows
+unfoldable pub wrongIn : ℕ → ℕ → ℕ → ℕ → List ℕ → ℕ → ℕ → Bool
+wrongIn w x y z block n i = cond (ltb i n) (leb (fourth w x y z (i % 4)) (byteAt block i)) (setAt block i)
+
+-- row r of a block has a byte that is not below its bound
+unfoldable pub overBounds : ℕ → ℕ → ℕ → ℕ → List ℕ → ℕ → Bool
+overBounds w x y z block r =
+    leb w (byteAt block (4 * r)) || (leb x (byteAt block (4 * r + 1)) || (leb y (byteAt block (4 * r + 2)) || leb z (byteAt block (4 * r + 3))))
+
+-- w, x, y, z are the bounds of the bytes of a used row of sheet s
+pub record RowBounds (b : List ℕ) (s w x y z : ℕ) : Type 0 where
+  pub first : w ≡ placeBound b s 0
+  pub second : x ≡ placeBound b s 1
+  pub third : y ≡ placeBound b s 2
+  pub last : z ≡ placeBound b s 3
+
+-- none of them is 0, and none is above 128
+pub record SmallBounds (w x y z : ℕ) : Type 0 where
+  pub some : (1 ≤ w) × (1 ≤ x) × (1 ≤ y) × (1 ≤ z)
+  pub few : (w ≤ 128) × (x ≤ 128) × (y ≤ 128) × (z ≤ 128)
+
+-- the entry of sheet s and its blocks are there
+pub record SheetThere (b : List ℕ) (s : ℕ) : Type 0 where
+  pub head : 512 ≤ length b
+  pub entry : s < 8
+  pub blocks : 512 * (firstBlock b s + blocksOf b s) ≤ length b
+
+-- the same, with the block where its rows begin and the bounds of their bytes
+pub record BoundedSheet (b : List ℕ) (s start w x y z : ℕ) : Type 0 where
+  pub there : SheetThere b s
+  pub starts : start ≡ firstBlock b s
+  pub bounds : RowBounds b s w x y z
+  pub small : SmallBounds w x y z
+
+-- ---- a row as one 32-bit number
+-- the numbers f 0, f 1, .. , n of them, joined by `|`: every bit that one of them has
+unfoldable pub joined : (ℕ → ℕ) → ℕ → ℕ
+joined f zero = 0
+joined f (suc n) = bitOr (joined f n) (f n)
+
+-- each byte of v is below its bound
+unfoldable pub belowBounds : ℕ → ℕ → ℕ → ℕ → ℕ → Bool
+belowBounds w x y z v = ltb (v % 256) w && (ltb (v / 256 % 256) x && (ltb (v / 65536 % 256) y && ltb (v / 16777216) z))
+
+-- one of the four bytes of v is 128 or more
+unfoldable pub anyHigh : ℕ → Bool
+anyHigh v = bit 7 v || (bit 15 v || (bit 23 v || bit 31 v))
+
+-- 128 less each bound: added to a row's bytes, which are below 128, it brings one to 128 or more exactly when it is not below its bound
+abbrev pub slackOf : ℕ → ℕ → ℕ → ℕ → ℕ
+slackOf w x y z = 128 - w + (128 - x) * 256 + (128 - y) * 65536 + (128 - z) * 16777216
+
+-- row r of a block, with k added, has a byte that is 128 or more
+unfoldable pub raisedRow : ℕ → List ℕ → ℕ → Bool
+raisedRow k block r = anyHigh ((word block r + k) % 2 ^ 32)

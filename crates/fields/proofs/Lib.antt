@@ -1,0 +1,2 @@
+-- The laws of numbers made of bytes, and of lists written over.
+pub mod Bytes

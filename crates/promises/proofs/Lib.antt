@@ -1,0 +1,3 @@
+-- The promises, and two lists compared.
+pub mod Promises
+pub mod Comparisons

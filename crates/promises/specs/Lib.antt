@@ -1,0 +1,4 @@
+-- Promises: the demands in the customer's words, of the bytes that runs leave. Comparisons: demand 3, whole, of the sessions too. Nothing here is
+-- proved: the laws stand in proofs/.
+pub mod Promises
+pub mod Comparisons

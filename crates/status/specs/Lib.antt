@@ -1,0 +1,2 @@
+-- Status and done byte of a state. Nothing here is proved: the laws stand in proofs/.
+pub mod Status

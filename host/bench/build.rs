@@ -1,7 +1,6 @@
 //! Builds the calls of Gecode where it is installed. Where it isn't, the benchmark goes without.
 
 use std::env;
-use std::io::Write;
 use std::path::Path;
 use std::process::{Command, Stdio};
 
@@ -31,16 +30,8 @@ fn main() {
 /// Whether there is a g++, and it finds Gecode's header.
 fn has_header() -> bool {
     let mut command = Command::new("g++");
-    command.args(["-E", "-x", "c++", "-"]);
-    command.stdin(Stdio::piped());
-    command.stdout(Stdio::null()).stderr(Stdio::null());
-    let Ok(mut child) = command.spawn() else {
-        return false;
-    };
-    let test = b"#if !__has_include(<gecode/int.hh>)\n#error\n#endif\n";
-    let written = child.stdin.take().map(|mut input| input.write_all(test));
-    let ended = child.wait();
-    matches!(written, Some(Ok(()))) && ended.is_ok_and(|status| status.success())
+    command.args(["-E", "-x", "c++", "-include", "gecode/int.hh", "/dev/null"]);
+    succeeds(command.stdout(Stdio::null()).stderr(Stdio::null()))
 }
 
 fn build(out: &Path) -> bool {

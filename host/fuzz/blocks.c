@@ -37,17 +37,12 @@ static void fail(const char *what) {
     exit(1);
 }
 
-/* The block at this address; the list is in the order of the addresses. */
+/* The block at this address. */
 static struct block *find(const uint8_t *at) {
-    int low = 0, high = count;
-    while (low < high) {
-        int middle = (low + high) / 2;
-        if (blocks[middle].at < at)
-            low = middle + 1;
-        else
-            high = middle;
-    }
-    return low < count && blocks[low].at == at ? &blocks[low] : NULL;
+    for (int i = 0; i < count; i++)
+        if (blocks[i].at == at)
+            return &blocks[i];
+    return NULL;
 }
 
 static void arrived(int signal_number, siginfo_t *info, void *context) {

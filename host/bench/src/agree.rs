@@ -1,79 +1,123 @@
-//! The library, the hand-written engines and Gecode must show the same before their times say
+//! The library, the hand-written opponents and Gecode must show the same before their times say
 //! anything.
+//!
+//! The opponents are frozen at document 01, so only what newer papers leave alone is compared: plain
+//! books and plain orders; of a book that isn't plain, its length and its checks.
 
-use crate::checks;
+use crate::gecode::{distances, Tables};
 use crate::measurement::Kind;
-use crate::ready::Ready;
-use crate::runs::agreed;
-use crate::subjects::{Subject, TURNS};
-use conformance::{Case, Order, Run, FINISH};
+use crate::opponents::{self, finish, Packed, Shown, Words, NOTHING};
+use crate::subjects::Subject;
+use crate::Effort;
+use conformance::{Case, Order, Run};
 
-/// How many seeded inputs they must agree on: books, lists, and lists with Gecode among them.
-pub struct Seeds {
-    pub books: u64,
-    pub lists: u64,
-    pub gecode: u64,
-}
-
-impl Seeds {
-    pub const FULL: Self = Self {
-        books: 20_000,
-        lists: 10_000,
-        gecode: 1_000,
-    };
-
-    pub const QUICK: Self = Self {
-        books: 500,
-        lists: 500,
-        gecode: 50,
-    };
-}
-
-pub fn on_seeds(seeds: &Seeds) {
-    for seed in 0..seeds.books {
-        checks::agreed(&Case::new(seed).bytes);
+/// Panics where they differ on a seeded input.
+pub fn on_seeds(effort: &Effort) {
+    for seed in 0..effort.books {
+        on_book(&Case::new(seed).bytes);
     }
-    for seed in 0..seeds.lists {
+    for seed in 0..effort.lists {
         let Run { book, orders, .. } = Run::new(seed);
-        let (_, answers) = agreed(&book, &orders);
-        let right = orders.len().is_multiple_of(8) && orders.len() <= 2_048;
-        if right && seed < seeds.gecode {
-            if let Some(gecode) = Ready::of(&book) {
-                gecode.agree(orders.as_chunks().0, &answers);
+        if on_book(&book) {
+            let plain = orders.as_chunks().0.iter().filter(|order| is_plain(order));
+            let orders: Vec<Order> = plain.take(256).copied().collect();
+            let gecode = (seed < effort.gecode).then(|| Tables::of(&book)).flatten();
+            on_list(&book, &orders, gecode.as_ref());
+        }
+    }
+}
+
+/// Panics where they differ on something that is timed on this subject.
+pub fn on_subject(subject: &Subject, gecode: Option<&Tables>) {
+    let Subject { name, book, .. } = subject;
+    let plain = on_book(book);
+    assert_eq!(plain, fitting::check_number(book) >> 16 == 0, "{name}");
+    if subject.kinds == [Kind::Check] {
+        return;
+    }
+    for numbers in [by_library(book, &[0]), by_opponents(book, &[0])[0].clone()] {
+        assert_eq!(numbers.0, 10 << 16, "{name}");
+    }
+    let finishes = [finish::<Words>(book), finish::<Packed>(book)];
+    assert_eq!(finishes[0], finishes[1], "{name}");
+    for kind in Kind::ALL {
+        for list in subject.lists(kind) {
+            let shown = on_list(book, &list, gecode);
+            let refused = shown.iter().filter(|it| it.refusal != 0).count();
+            assert_eq!((shown.len(), refused), (list.len() + 1, 0), "{name}");
+            let last = shown[list.len()];
+            match kind {
+                // A dead session would be no measure of a narrow.
+                Kind::Narrow => assert_ne!(last.status, 0, "{name}"),
+                Kind::ToAndFro => assert_eq!(last, shown[0], "{name}"),
+                Kind::Finish => assert_eq!(last.domains, finishes[0].domains, "{name}"),
+                _ => {}
             }
         }
     }
 }
 
-/// Everything that is timed on this subject. A finish finds a set exactly if there is one.
-pub fn on_subject(subject: &Subject, gecode: Option<&Ready>) {
-    checks::agreed(&subject.book);
-    if subject.kinds == [Kind::Check] {
-        return;
+/// Whether this is a plain book. The library must accept it too; and a wrong length or check is
+/// refused alike.
+fn on_book(book: &[u8]) -> bool {
+    let number = opponents::check(book);
+    if number >> 16 < 3 {
+        assert_eq!(number, fitting::check_number(book));
     }
-    let on_list = |orders: &[Order]| {
-        let (accepted, answers) = agreed(&subject.book, orders.as_flattened());
-        assert_eq!(accepted as usize, orders.len(), "{}", subject.name);
-        if let Some(gecode) = gecode {
-            gecode.agree(orders, &answers);
-        }
-        answers
-    };
-    assert_eq!(agreed(&subject.book, &[0]).0, 10 << 16);
-    let opening = on_list(&[]);
-    for order in subject.narrows.chunks(1) {
-        // A dead session would be no measure of a narrow.
-        assert!(on_list(order)[1][1] != 0, "{}", subject.name);
+    number >> 16 == 0
+}
+
+/// Whether newer papers read this order as document 01 does: they use kinds and bytes that it has no
+/// use for.
+fn is_plain(order: &Order) -> bool {
+    matches!(
+        order,
+        [1, _, 0, 0, ..] | [2 | 4, 0, 0, 0, 0, 0, 0, 0] | [3, _, 0, 0, 0, 0, 0, 0]
+    )
+}
+
+/// What all show; they must show the same. Gecode gets only the accepted orders.
+fn on_list(book: &[u8], orders: &[Order], gecode: Option<&Tables>) -> Vec<Shown> {
+    let library = by_library(book, orders.as_flattened());
+    for opponent in by_opponents(book, orders.as_flattened()) {
+        assert!(opponent == library, "{opponent:?} and {library:?}");
     }
-    let to_and_fro = on_list(&subject.to_and_fro);
-    assert_eq!(to_and_fro.len(), 3 * TURNS + 1);
-    assert_eq!(to_and_fro.last(), opening.last());
-    assert_eq!(on_list(&subject.short).len(), 17 + 1);
-    assert_eq!(on_list(&subject.long).len(), 256 + 1);
-    let finish = on_list(&[FINISH])[1];
+    let (_, shown) = library;
     if let Some(gecode) = gecode {
-        gecode.agree_on_finish(&finish);
+        let answered = orders.iter().zip(&shown[1..]);
+        let (accepted, domains): (Vec<Order>, Vec<_>) = answered
+            .filter(|(_, it)| it.refusal == 0)
+            .map(|(order, it)| (*order, it.domains))
+            .unzip();
+        for distance in distances() {
+            let gecode = gecode.shown(&accepted, distance);
+            assert_eq!(gecode[0], shown[0].domains);
+            assert_eq!(gecode[1..], domains);
+        }
     }
+    shown
+}
+
+/// The number of a run, and what it shows.
+type Ran = (u64, Vec<Shown>);
+
+fn by_library(book: &[u8], orders: &[u8]) -> Ran {
+    let mut answers = vec![0; fitting::space_for(orders.len() / 8)];
+    let number = fitting::run_number(book, orders, &mut answers);
+    let shown = |answer: &[u8; 72]| Shown {
+        refusal: answer[0],
+        status: answer[1],
+        domains: std::array::from_fn(|i| u32::from_le_bytes(answer[8..].as_chunks().0[i])),
+    };
+    (number, answers.as_chunks().0.iter().map(shown).collect())
+}
+
+fn by_opponents(book: &[u8], orders: &[u8]) -> [Ran; 2] {
+    [opponents::run::<Words>, opponents::run::<Packed>].map(|run| {
+        let mut shown = [NOTHING; 257];
+        let number = run(book, orders, &mut shown);
+        (number, shown[..=orders.len().min(2_048) / 8].to_vec())
+    })
 }
 
 #[cfg(test)]
@@ -82,11 +126,19 @@ mod tests {
     use crate::subjects::subjects;
 
     #[test]
+    fn all_agree_on_seeds() {
+        on_seeds(&Effort::new(true));
+    }
+
+    #[test]
     fn all_agree_on_what_is_timed() {
-        on_seeds(&Seeds::QUICK);
-        for subject in subjects() {
-            let gecode = Ready::of(&subject.book);
-            on_subject(&subject, gecode.as_ref());
+        let subjects = subjects();
+        for subject in &subjects {
+            on_subject(subject, Tables::of(&subject.book).as_ref());
         }
+        let numbers = subjects.iter().map(|it| opponents::check(&it.book));
+        let refused: Vec<u64> = numbers.filter(|number| number >> 16 != 0).collect();
+        // The places of document 01: block 32.
+        assert_eq!(refused, [5 << 16 | 32, 2 << 16 | 32]);
     }
 }

@@ -19,10 +19,11 @@ struct Sheet {
     TupleSet rows;
 };
 
-// What is built of a book once.
+// What is built of a book once. The opening is a Session, settled; null for a dead one.
 struct Tables {
     std::vector<int> values;
     std::vector<Sheet> sheets;
+    std::unique_ptr<Space> opening;
 };
 
 Sheet sheet_of(const uint8_t *entry, const uint8_t *blocks) {
@@ -101,14 +102,14 @@ Held settled(Held session) { return session && session->status() != SS_FAILED ? 
 Held copied(const Held &session) { return Held(session ? static_cast<Session *>(session->clone()) : nullptr); }
 
 // Of so many choices one keeps a copy; the others are computed again.
-Held first_solution(const Held &session, unsigned distance) {
+Held first_solution(Space *session, unsigned distance) {
     if (!session) {
         return nullptr;
     }
     Search::Options options;
     options.threads = 1;
     options.c_d = distance;
-    DFS<Session> search(session.get(), options);
+    DFS<Session> search(static_cast<Session *>(session), options);
     return Held(search.next());
 }
 
@@ -143,15 +144,13 @@ void *gecode_tables(const uint8_t *book) {
 
 void gecode_free_tables(void *tables) { delete static_cast<Tables *>(tables); }
 
-void *gecode_opening(const void *tables) {
-    return new Held(settled(Held(new Session(*static_cast<const Tables *>(tables)))));
+void gecode_open(void *built) {
+    auto tables = static_cast<Tables *>(built);
+    tables->opening = settled(Held(new Session(*tables)));
 }
 
-void gecode_free_opening(void *opening) { delete static_cast<Held *>(opening); }
-
-// The domains are 16, or null where nobody asks.
-void gecode_finish(const void *opening, uint32_t distance, uint32_t *domains) {
-    show(first_solution(*static_cast<const Held *>(opening), distance), domains);
+void gecode_finish(const void *tables, uint32_t distance) {
+    first_solution(static_cast<const Tables *>(tables)->opening.get(), distance);
 }
 
 // Orders of 8 bytes. The domains are 16 for the opening and 16 for each order, or null.
@@ -174,7 +173,7 @@ void gecode_run(const void *tables, uint32_t distance, const uint8_t *orders, si
             marks.resize(order[1] - 1);
         }
         if (order[0] == 4) {
-            show(first_solution(now, distance), shown);
+            show(first_solution(now.get(), distance), shown);
         } else {
             show(now, shown);
         }

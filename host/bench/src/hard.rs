@@ -1,74 +1,50 @@
 //! Books whose finish takes thousands of tries.
 
-use crate::engine;
 use crate::measurement::Kind;
+use crate::opponents::{finish, Packed};
 use conformance::{write, Book, Random, Sheet};
 
 /// What a book must take to be hard.
 const TRIES: u64 = 2_500;
 
-pub struct Hard {
-    pub name: String,
-    pub book: Book,
-    /// What is timed on it.
-    pub kinds: &'static [Kind],
-}
-
-impl Hard {
-    fn new(name: String, book: Book) -> Self {
-        Self {
-            name,
-            book,
-            kinds: &[Kind::Finish],
-        }
-    }
-
-    fn in_everything(self) -> Self {
-        Self {
-            kinds: &Kind::ALL,
-            ..self
-        }
-    }
-}
-
-/// All take a finish; one without a full set and one with it take everything.
-pub fn books() -> Vec<Hard> {
+/// Names, books, and what is timed on them. All take a finish; one without a full set and one with it
+/// take everything.
+pub fn books() -> [(String, Book, &'static [Kind]); 6] {
     // The edges of a tetrahedron and of a cube.
     let tetrahedron = [[0, 1], [0, 2], [0, 3], [1, 2], [1, 3], [2, 3]];
-    let corners = || 0..8_usize;
     let next = |corner| [1, 2, 4].map(move |step| [corner, corner | step]);
-    let cube: Vec<[usize; 2]> = corners().flat_map(next).filter(|[a, b]| a < b).collect();
-    let parity = |corners, edges: &[[usize; 2]], values| {
+    let cube: Vec<[u8; 2]> = (0..8).flat_map(next).filter(|[a, b]| a < b).collect();
+    let parity = |corners, edges: &[_], values| {
         let name = format!("hard, none: parity, {} columns", edges.len());
-        Hard::new(name, parity(corners, edges, values))
+        (name, parity(corners, edges, values))
     };
-    vec![
-        parity(4, &tetrahedron, 10),
-        parity(8, &cube, 4).in_everything(),
-        random(18, 320, false),
-        random(18, 340, true).in_everything(),
-        random(23, 508, false),
-        random(23, 508, true),
+    let only_finish: &[Kind] = &[Kind::Finish];
+    let with = |kinds, (name, book)| (name, book, kinds);
+    [
+        with(only_finish, parity(4, &tetrahedron, 10)),
+        with(&Kind::ALL, parity(8, &cube, 4)),
+        with(only_finish, random(18, 320, false)),
+        with(&Kind::ALL, random(18, 340, true)),
+        with(only_finish, random(23, 508, false)),
+        with(only_finish, random(23, 508, true)),
     ]
 }
 
-/// A graph: each edge is a column, and each corner a sheet, whose rows have an even sum. Only the
-/// last corner's have an odd one, and as each edge counts twice there is no full set. No sheet
-/// tells before its last column but one is single.
-fn parity(corners: usize, edges: &[[usize; 2]], values: u8) -> Book {
-    let sheet = |corner: usize| {
-        let mut columns = Vec::new();
-        let mut rows: Vec<Vec<u8>> = vec![vec![]];
-        for (column, _) in (0..).zip(edges).filter(|(_, edge)| edge.contains(&corner)) {
-            columns.push(column);
-            let all = (0..values).flat_map(|value| rows.iter().map(move |row| (row, value)));
-            rows = all
-                .map(|(row, value)| [&row[..], &[value]].concat())
-                .collect();
+/// A graph, three edges at each corner: each edge is a column, and each corner a sheet, whose rows
+/// have an even sum. Only the last corner's have an odd one, and as each edge counts twice there is no
+/// full set. No sheet tells before its last column but one is single.
+fn parity(corners: u8, edges: &[[u8; 2]], values: u8) -> Book {
+    let count = u16::from(values);
+    let row = |n| [n % count, n / count % count, n / count / count].map(|value| value as u8);
+    let rows = (0..count.pow(3)).map(|n| row(n).to_vec());
+    let sheet = |corner: u8| {
+        let odd = u8::from(corner + 1 == corners);
+        let fits = |row: &Vec<u8>| row.iter().sum::<u8>() % 2 == odd;
+        let at_corner = (0..).zip(edges).filter(|(_, edge)| edge.contains(&corner));
+        Sheet {
+            columns: at_corner.map(|(column, _)| column).collect(),
+            rows: rows.clone().filter(fits).collect(),
         }
-        let odd = usize::from(corner + 1 == corners);
-        rows.retain(|row| row.iter().map(|&value| usize::from(value)).sum::<usize>() % 2 == odd);
-        Sheet { columns, rows }
     };
     Book {
         counts: vec![values; edges.len()],
@@ -78,17 +54,15 @@ fn parity(corners: usize, edges: &[[usize; 2]], values: u8) -> Book {
 
 /// The first seed that gives a hard book of 16 columns and 8 sheets of width 4, with or without a
 /// full set. So many rows leave about one by chance.
-fn random(values: u8, rows: usize, found: bool) -> Hard {
+fn random(values: u8, rows: usize, found: bool) -> (String, Book) {
     let hard = |book: &Book| {
-        let (tries, has) = engine::tries(&write(book));
-        has == found && tries >= TRIES
+        let finish = finish::<Packed>(&write(book));
+        (finish.domains[0] != 0) == found && finish.tries >= TRIES
     };
-    let book = (0..)
-        .map(|seed| seeded(&mut Random::new(seed), values, rows))
-        .find(hard)
-        .expect("a seed");
+    let mut books = (0..).map(|seed| seeded(&mut Random::new(seed), values, rows));
     let outcome = if found { "found" } else { "none" };
-    Hard::new(format!("hard, {outcome}: random, {rows} rows"), book)
+    let name = format!("hard, {outcome}: random, {rows} rows");
+    (name, books.find(hard).expect("a seed"))
 }
 
 /// Every column stands in two sheets, so that none is tried over and over without effect.

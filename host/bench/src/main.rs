@@ -6,89 +6,121 @@
 //! `-- --out FOLDER` it writes there. Both sides are code for plain x86-64, and all are called in turn,
 //! round by round.
 //!
-//! - What is timed: `subjects`, with the books of `shapes` and `hard`.
-//! - Who is timed: `runs` has the library and `engine` (words and packed lists), `baseline` the check,
-//!   `gecode` and `ready` Gecode. `agree` sees first that all show the same.
-//! - The timing: `measure` over `checks`, `sessions` and `lists`, each made of `contest`, `race`, `stats`.
-//! - What is shown: `measurement` is the one list of figures; `table`, `page`, `picture` and `machine`.
+//! - What is timed: `subjects`, with the books of `hard`.
+//! - Who is timed: the library, `opponents`, frozen at document 01, and `gecode`. `agree` sees first
+//!   that all show the same.
+//! - The timing: `timed`, which says who does what, and `race`.
+//! - What is shown: `measurement` is the one list of figures; `page`, its words in `page.md`; `picture`.
 
-#[forbid(unsafe_code)]
 mod agree;
-#[forbid(unsafe_code)]
-mod baseline;
-#[forbid(unsafe_code)]
-mod checks;
-#[forbid(unsafe_code)]
-mod contest;
-#[forbid(unsafe_code)]
-mod engine;
 mod gecode;
-#[forbid(unsafe_code)]
 mod hard;
-#[forbid(unsafe_code)]
-mod lists;
-#[forbid(unsafe_code)]
-mod machine;
-#[cfg(test)]
-#[forbid(unsafe_code)]
-mod made_up;
-#[forbid(unsafe_code)]
-mod measure;
-#[forbid(unsafe_code)]
 mod measurement;
-#[forbid(unsafe_code)]
-mod options;
-#[forbid(unsafe_code)]
+mod opponents;
 mod page;
-#[forbid(unsafe_code)]
 mod picture;
-#[forbid(unsafe_code)]
 mod race;
-#[forbid(unsafe_code)]
-mod ready;
-#[forbid(unsafe_code)]
-mod runs;
-#[forbid(unsafe_code)]
-mod sessions;
-#[forbid(unsafe_code)]
-mod shapes;
-#[forbid(unsafe_code)]
-mod stats;
-#[forbid(unsafe_code)]
 mod subjects;
-#[forbid(unsafe_code)]
-mod table;
+mod timed;
 
-use agree::Seeds;
-use options::{Options, USAGE};
+use gecode::Tables;
+use measurement::{Kind, Measurement};
 use page::Page;
-use race::Pace;
-use std::path::Path;
+use std::path::{Path, PathBuf};
 use std::process::ExitCode;
+use std::time::Duration;
+use subjects::Subject;
+
+const USAGE: &str = "options: --quick (few rounds, no files), --out FOLDER (for the files)";
+
+/// The repository's documents.
+const DOCUMENTS: &str = concat!(env!("CARGO_MANIFEST_DIR"), "/../../docs");
+
+/// How much is compared, and how long is timed.
+struct Effort {
+    /// Seeded inputs that all must agree on: books, lists, and lists with Gecode among them.
+    books: u64,
+    lists: u64,
+    gecode: u64,
+    /// What the turns of one call in one round fill.
+    round: Duration,
+    /// The most rounds, and the fewest, of what takes long.
+    rounds: u64,
+    fewest: u64,
+    /// What rounds past the fewest may take.
+    patience: Duration,
+}
+
+impl Effort {
+    /// Few rounds show that everything works; their figures say little.
+    fn new(quick: bool) -> Self {
+        let choice = |few, many| if quick { few } else { many };
+        Self {
+            books: choice(500, 20_000),
+            lists: choice(500, 10_000),
+            gecode: choice(50, 1_000),
+            round: Duration::from_micros(choice(50, 400)),
+            rounds: choice(7, 301),
+            fewest: choice(3, 15),
+            patience: Duration::from_millis(choice(50, 3_000)),
+        }
+    }
+}
 
 fn main() -> ExitCode {
-    let Some(options) = Options::of(std::env::args().skip(1)) else {
+    let Some((quick, folder)) = options(std::env::args().skip(1)) else {
         eprintln!("{USAGE}");
         return ExitCode::from(2);
     };
-    let (pace, seeds) = match options.quick {
-        true => (Pace::QUICK, Seeds::QUICK),
-        false => (Pace::FULL, Seeds::FULL),
-    };
+    let effort = &Effort::new(quick);
     let subjects = subjects::subjects();
     let page = Page {
-        measurements: &measure::all(&subjects, &pace, &seeds),
+        measurements: &measured(&subjects, effort),
         subjects: &subjects,
-        seeds: &seeds,
-        processor: machine::processor(),
-        gecode: machine::gecode(),
+        effort,
     };
-    println!("{}\n{}", page.head(), table::table(page.measurements));
-    if let Some(folder) = options.folder {
-        put(&folder.join(page::FILE), &page.text());
-        put(&folder.join(page::PICTURE), &page.picture());
+    println!("{}\n\n{}", page.machine(), page.table());
+    if let Some(folder) = folder {
+        put(&folder.join("BENCH.md"), &page.text());
+        let picture = picture::svg(page.measurements, &page.machine());
+        put(&folder.join("bench.svg"), &picture);
     }
     ExitCode::SUCCESS
+}
+
+/// Whether to make few rounds, and where to write. A full run writes into the documents unless another
+/// folder is named; a quick one only if one is. None for anything else.
+fn options(mut arguments: impl Iterator<Item = String>) -> Option<(bool, Option<PathBuf>)> {
+    let (mut quick, mut folder) = (false, None);
+    while let Some(argument) = arguments.next() {
+        match argument.as_str() {
+            "--quick" => quick = true,
+            "--out" => folder = Some(arguments.next()?.into()),
+            _ => return None,
+        }
+    }
+    let unasked = (!quick).then(|| DOCUMENTS.into());
+    Some((quick, folder.or(unasked)))
+}
+
+/// Each kind on each of its books, one kind after the other. All are compared first.
+fn measured(subjects: &[Subject], effort: &Effort) -> Vec<Measurement> {
+    eprintln!("compared: what all show");
+    agree::on_seeds(effort);
+    let tables: Vec<_> = subjects.iter().map(|it| Tables::of(&it.book)).collect();
+    for (subject, tables) in subjects.iter().zip(&tables) {
+        agree::on_subject(subject, tables.as_ref());
+    }
+    let mut measurements = Vec::new();
+    for kind in Kind::ALL {
+        eprintln!("timed: {}", kind.title());
+        for (subject, tables) in subjects.iter().zip(&tables) {
+            if subject.kinds.contains(&kind) {
+                measurements.push(timed::measure(kind, subject, tables.as_ref(), effort));
+            }
+        }
+    }
+    measurements
 }
 
 /// Writes a file. Where that can't be done the figures have been printed all the same.
@@ -96,5 +128,21 @@ fn put(file: &Path, text: &str) {
     match std::fs::write(file, text) {
         Ok(()) => eprintln!("written: {}", file.display()),
         Err(error) => eprintln!("not written: {}: {error}", file.display()),
+    }
+}
+
+#[cfg(test)]
+mod tests {
+    use super::*;
+
+    #[test]
+    fn only_a_full_run_writes_unasked() {
+        let of = |words: &str| options(words.split_whitespace().map(String::from));
+        assert_eq!(of(""), Some((false, Some(DOCUMENTS.into()))));
+        assert_eq!(of("--quick"), Some((true, None)));
+        assert_eq!(of("--quick --out x"), Some((true, Some("x".into()))));
+        assert_eq!(of("--out"), None);
+        assert_eq!(of("--fast"), None);
+        assert!(Path::new(DOCUMENTS).join("DECISIONS.md").exists());
     }
 }

@@ -1,6 +1,4 @@
-//! What was measured: the one list from which the table, the page and the picture are made.
-
-use crate::stats;
+//! What was measured: the one list from which the page and the picture are made.
 
 /// What is timed.
 #[derive(Clone, Copy, PartialEq, Eq, Debug)]
@@ -15,16 +13,13 @@ pub enum Kind {
 }
 
 impl Kind {
-    pub const ALL: [Self; 7] = [
-        Self::Check,
-        Self::Opening,
-        Self::Narrow,
-        Self::ToAndFro,
-        Self::Finish,
-        Self::Short,
-        Self::Long,
-    ];
+    /// All of them, in the order of the page.
+    pub const ALL: [Self; 7] = {
+        use Kind::*;
+        [Check, Opening, Narrow, ToAndFro, Finish, Short, Long]
+    };
 
+    /// Its name on the page.
     pub fn title(self) -> &'static str {
         match self {
             Self::Check => "check",
@@ -48,113 +43,68 @@ pub enum Opponent {
 }
 
 impl Opponent {
-    pub const ALL: [Self; 4] = [
-        Self::Hand,
-        Self::Packed,
-        Self::Gecode,
-        Self::GecodeWithTables,
-    ];
-
-    pub fn title(self) -> &'static str {
-        match self {
-            Self::Hand => "hand-optimised",
-            Self::Packed => "packed",
-            Self::Gecode => "Gecode",
-            Self::GecodeWithTables => "Gecode + tables",
-        }
-    }
-}
-
-/// What came of it, besides the times.
-#[derive(Clone, Debug)]
-pub enum Outcome {
-    Checked { bytes: usize, number: u64 },
-    Finished { found: bool, tries: u64 },
-    Ran,
+    /// All of them, in the order of the table.
+    pub const ALL: [Self; 4] = {
+        use Opponent::*;
+        [Hand, Packed, Gecode, GecodeWithTables]
+    };
 }
 
 /// One row of the table, and one of the picture.
-#[derive(Clone, Debug)]
 pub struct Measurement {
+    /// What was timed.
     pub kind: Kind,
+    /// The name of the book.
     pub book: String,
-    pub outcome: Outcome,
+    /// What came of it, besides the times.
+    pub note: String,
     /// The library's time in nanoseconds.
     pub library: f64,
     /// Those of the opponents, where there is something to compare.
-    pub others: [Option<f64>; 4],
+    pub others: [Option<f64>; Opponent::ALL.len()],
+    /// How many rounds there were.
     pub rounds: usize,
 }
 
 impl Measurement {
-    /// The library's time over that of this opponent.
+    /// The library's time over that of this opponent. A difference that is lost in noise may be no time
+    /// at all: then there is no ratio.
     pub fn ratio(&self, opponent: Opponent) -> Option<f64> {
-        stats::ratio(self.library, self.others[opponent as usize]?)
+        let other = self.others[opponent as usize]?;
+        (self.library > 0.0 && other > 0.0).then(|| self.library / other)
     }
 
-    /// The outcome in words. A finish has its time for each try here.
-    pub fn note(&self) -> String {
-        match self.outcome {
-            Outcome::Checked { bytes, number } => {
-                let bytes = thousands(bytes as u64);
-                match fitting::Refusal::from_number(number) {
-                    None => format!("{bytes} bytes, accepted"),
-                    Some(it) => format!(
-                        "{bytes} bytes, refusal {} place {}",
-                        it.number(),
-                        it.place()
-                    ),
-                }
-            }
-            Outcome::Finished { found, tries } => {
-                let found = if found { "found" } else { "none" };
-                let each = time(self.library / tries.max(1) as f64);
-                let word = if tries == 1 { "try" } else { "tries" };
-                format!("{found} after {} {word}, {each} a try", thousands(tries))
-            }
-            Outcome::Ran => String::new(),
+    /// That ratio in words.
+    pub fn ratio_text(&self, opponent: Opponent) -> String {
+        match self.ratio(opponent) {
+            None => "-".into(),
+            Some(small) if small < 0.0995 => format!("{small:.3}"),
+            Some(ratio) => format!("{ratio:.2}"),
         }
     }
 }
 
 /// Nanoseconds to three figures, in a unit that fits.
 pub fn time(nanos: f64) -> String {
-    let units = [(1e6, "ms"), (1e3, "µs")];
-    let (one, unit) = units
-        .into_iter()
-        .find(|&(one, _)| nanos >= 0.9995 * one)
-        .unwrap_or((1.0, "ns"));
-    format!("{} {unit}", three_figures(nanos / one))
-}
-
-/// A ratio with two figures at least, unless it is very small.
-pub fn ratio_text(ratio: f64) -> String {
-    if ratio < 0.0995 {
-        format!("{ratio:.3}")
-    } else {
-        format!("{ratio:.2}")
-    }
-}
-
-fn three_figures(number: f64) -> String {
-    match number {
-        small if small < 9.995 => format!("{small:.2}"),
-        middle if middle < 99.95 => format!("{middle:.1}"),
-        large => format!("{large:.0}"),
-    }
+    let (number, unit) = match nanos {
+        small if small < 999.5 => (small, "ns"),
+        middle if middle < 999.5e3 => (middle / 1e3, "µs"),
+        large => (large / 1e6, "ms"),
+    };
+    let places = match number {
+        small if small < 9.995 => 2,
+        middle if middle < 99.95 => 1,
+        _ => 0,
+    };
+    format!("{number:.places$} {unit}")
 }
 
 /// A whole number with a comma before every three figures.
 pub fn thousands(number: u64) -> String {
-    let digits = number.to_string();
-    let mut grouped = String::new();
-    for (i, digit) in digits.chars().enumerate() {
-        if i > 0 && (digits.len() - i).is_multiple_of(3) {
-            grouped.push(',');
-        }
-        grouped.push(digit);
+    match number {
+        small if small < 1_000 => small.to_string(),
+        large => format!("{},{:03}", thousands(large / 1_000), large % 1_000),
     }
-    grouped
 }
 
 #[cfg(test)]
@@ -162,44 +112,13 @@ mod tests {
     use super::*;
 
     #[test]
-    fn times_have_three_figures_and_a_unit() {
-        assert_eq!(time(3.456), "3.46 ns");
-        assert_eq!(time(999.4), "999 ns");
-        assert_eq!(time(999.6), "1.00 µs");
-        assert_eq!(time(12_345.0), "12.3 µs");
-        assert_eq!(time(39_493_000.0), "39.5 ms");
-    }
-
-    #[test]
-    fn small_ratios_have_a_place_more() {
-        assert_eq!(ratio_text(1.456), "1.46");
-        assert_eq!(ratio_text(0.1), "0.10");
-        assert_eq!(ratio_text(0.0034), "0.003");
-    }
-
-    #[test]
-    fn whole_numbers_have_commas() {
-        assert_eq!(thousands(0), "0");
-        assert_eq!(thousands(508), "508");
-        assert_eq!(thousands(16_896), "16,896");
-        assert_eq!(thousands(1_234_567), "1,234,567");
-    }
-
-    #[test]
-    fn a_ratio_needs_two_times() {
-        let measurement = Measurement {
-            kind: Kind::Finish,
-            book: "any".into(),
-            outcome: Outcome::Finished {
-                found: false,
-                tries: 2_000,
-            },
-            library: 300_000.0,
-            others: [Some(200_000.0), None, Some(600_000.0), Some(0.0)],
-            rounds: 1,
-        };
-        let ratios = Opponent::ALL.map(|opponent| measurement.ratio(opponent));
-        assert_eq!(ratios, [Some(1.5), None, Some(0.5), None]);
-        assert_eq!(measurement.note(), "none after 2,000 tries, 150 ns a try");
+    fn numbers_are_told_in_words() {
+        let times = [3.456, 999.4, 999.6, 12_345.0, 39_493_000.0].map(time);
+        assert_eq!(
+            times,
+            ["3.46 ns", "999 ns", "1.00 µs", "12.3 µs", "39.5 ms"]
+        );
+        let numbers = [0, 508, 16_896, 1_000_067].map(thousands);
+        assert_eq!(numbers, ["0", "508", "16,896", "1,000,067"]);
     }
 }

@@ -1,138 +1,153 @@
-//! The page of the documents, and the head of the table. Every figure in them comes from the run.
+//! The page of the documents: the words of `page.md`, and in them the figures of the run.
 
-mod layout;
-mod slower;
-mod words;
-
-use crate::agree::Seeds;
-use crate::gecode::Distance;
-use crate::measurement::{thousands, Kind, Measurement};
-use crate::picture;
-use crate::stats::range;
+use crate::gecode;
+use crate::measurement::{thousands, time, Kind, Measurement, Opponent};
 use crate::subjects::Subject;
-use crate::table::table;
-use std::fmt::Write;
+use crate::Effort;
 
-pub const FILE: &str = "BENCH.md";
-pub const PICTURE: &str = "bench.svg";
+/// Ratios within a tenth of 1 count as alike; what is shown as 1.10 is within.
+const ALIKE: f64 = 1.105;
 
 /// What is shown of a run.
 pub struct Page<'a> {
     pub measurements: &'a [Measurement],
     pub subjects: &'a [Subject],
-    pub seeds: &'a Seeds,
-    pub processor: String,
-    /// Gecode's version, where the build found it.
-    pub gecode: Option<String>,
+    pub effort: &'a Effort,
 }
 
 impl Page<'_> {
-    /// What the columns of the table mean, and what it was measured on.
-    pub fn head(&self) -> String {
-        let gecode = match &self.gecode {
-            Some(version) => words::with_gecode(version),
-            None => words::NO_GECODE.into(),
-        };
-        let machine = self.machine();
-        let columns = [words::COLUMNS, &gecode, words::DIFFERENCES].concat();
-        layout::broken(&format!(
-            "{} Measured on {machine}.\n\n{columns}",
-            words::RATIOS
-        ))
-    }
-
+    /// The whole page.
     pub fn text(&self) -> String {
-        let table = table(self.measurements);
-        let parts = [
-            words::TITLE,
-            &self.head(),
-            &format!("![{}]({PICTURE})\n", words::ALT),
-            "## The table\n",
-            &table,
-            "## What is measured\n",
-            &self.kinds(),
-            words::BOOKS,
-            &self.books(),
-            "## What is compared with what\n",
-            &self.compared(),
-            "## Where the library is slower, and why\n",
-            &slower::text(self.measurements),
-            words::REPEAT,
-        ];
-        layout::broken(&parts.join("\n"))
-    }
-
-    pub fn picture(&self) -> String {
-        picture::of(self.measurements, &self.machine())
-    }
-
-    /// The processor, and how many rounds there were.
-    fn machine(&self) -> String {
-        let rounds = range(self.measurements.iter().map(|it| it.rounds as f64));
-        let rounds = match rounds {
-            Some((least, most)) if least < most => format!("{least} to {most} rounds a row"),
-            Some((rounds, _)) => format!("{rounds} rounds a row"),
-            None => "no rounds".into(),
-        };
-        format!("{}, {rounds}", self.processor)
-    }
-
-    fn kinds(&self) -> String {
-        let line = |kind: Kind| format!("- **{}**: {}\n", kind.title(), words::measured(kind));
-        Kind::ALL.map(line).concat()
-    }
-
-    fn books(&self) -> String {
-        let mut text = String::new();
-        for subject in self.subjects {
-            let _ = writeln!(text, "- **{}**: {}", subject.name, subject.size);
+        let gecode = gecode::version().map_or(
+            "Gecode, which was not found when this was built: it has no figures".into(),
+            |version| format!("Gecode {version}"),
+        );
+        let book = |it: &Subject| format!("- **{}**: {}\n", it.name, it.size);
+        let mut text = include_str!("page.md").to_string();
+        let mut fill = |name: &str, words: &str| text = text.replace(&format!("{{{name}}}"), words);
+        fill("machine", &self.machine());
+        fill("gecode", &gecode);
+        fill("table", &self.table());
+        fill("books", &self.subjects.iter().map(book).collect::<String>());
+        fill("seeded books", &thousands(self.effort.books));
+        fill("seeded lists", &thousands(self.effort.lists));
+        fill("seeded with Gecode", &thousands(self.effort.gecode));
+        fill("against hand", &self.against(Opponent::Hand));
+        fill("against packed", &self.against(Opponent::Packed));
+        fill("against Gecode", &self.against(Opponent::Gecode));
+        for kind in Kind::ALL {
+            fill(&format!("slower {}", kind.title()), &self.slower(kind));
         }
         text
     }
 
-    fn compared(&self) -> String {
-        let gecode = match &self.gecode {
-            Some(_) => {
-                let distances = Distance::both().map(Distance::choices);
-                words::gecode_compared(&thousands(self.seeds.gecode), distances)
-            }
-            None => words::NO_GECODE.into(),
-        };
-        let seeded = [self.seeds.books, self.seeds.lists].map(thousands);
-        words::compared(&seeded[0], &seeded[1]) + &gecode
+    /// The processor, where the system tells it, and how many rounds there were.
+    pub fn machine(&self) -> String {
+        let told = std::fs::read_to_string("/proc/cpuinfo").unwrap_or_default();
+        let line = told.lines().find(|line| line.starts_with("model name"));
+        let name = line.and_then(|line| line.split_once(": "));
+        let name = name.map_or("a processor without a name", |(_, name)| name.trim());
+        let rounds = || self.measurements.iter().map(|it| it.rounds);
+        let (least, most) = (rounds().min().unwrap_or(0), rounds().max().unwrap_or(0));
+        format!("{name}, {least} to {most} rounds a row")
     }
+
+    /// The table in Markdown, laid out so that it also reads well in a terminal.
+    pub fn table(&self) -> String {
+        let mut text = String::from(HEAD);
+        let mut kind = None;
+        for it in self.measurements {
+            if kind.replace(it.kind) != Some(it.kind) {
+                let title = format!("**{}**", it.kind.title());
+                text += &line(&title, "", Default::default(), "");
+            }
+            let ratios = Opponent::ALL.map(|opponent| it.ratio_text(opponent));
+            text += &line(&it.book, &time(it.library), ratios, &it.note);
+        }
+        text
+    }
+
+    /// How the library does against this opponent, over all rows.
+    fn against(&self, opponent: Opponent) -> String {
+        let ratio = |it| Measurement::ratio(it, opponent).map(|ratio| (ratio, it));
+        let mut ratios: Vec<_> = self.measurements.iter().filter_map(ratio).collect();
+        ratios.sort_by(|(a, _), (b, _)| a.total_cmp(b));
+        let [Some((_, least)), Some((_, most))] = [ratios.first(), ratios.last()] else {
+            return "no figures.".into();
+        };
+        let slower = ratios.iter().filter(|(it, _)| *it > ALIKE).count();
+        let faster = ratios.iter().filter(|(it, _)| *it < 1.0 / ALIKE).count();
+        let (rows, alike) = (ratios.len(), ratios.len() - slower - faster);
+        let [least, most] = [least, most].map(|it| {
+            let (ratio, title) = (it.ratio_text(opponent), it.kind.title());
+            format!("{ratio} ({title}: {})", it.book)
+        });
+        format!(
+            "of {rows} rows the library is slower by more than a tenth in {slower}, alike in {alike}, \
+             faster in {faster}; the ratios go from {least} to {most}."
+        )
+    }
+
+    /// The rows of this kind in which the library is slower than the hand-optimised opponent.
+    fn slower(&self, kind: Kind) -> String {
+        let is_slower = |it: &&Measurement| {
+            it.kind == kind && it.ratio(Opponent::Hand).is_some_and(|ratio| ratio > ALIKE)
+        };
+        let row = |it: &Measurement| format!("{} ({})", it.book, it.ratio_text(Opponent::Hand));
+        let rows = self.measurements.iter().filter(is_slower).map(row);
+        match rows.collect::<Vec<_>>().join("; ") {
+            none if none.is_empty() => "nowhere by more than a tenth".into(),
+            rows => rows,
+        }
+    }
+}
+
+const HEAD: &str = "\
+| book                           | library | / hand-optimised | / packed | / Gecode | / Gecode + tables | outcome                                |
+|--------------------------------|--------:|-----------------:|---------:|---------:|------------------:|----------------------------------------|
+";
+
+fn line(book: &str, library: &str, ratios: [String; Opponent::ALL.len()], note: &str) -> String {
+    let [hand, packed, gecode, with_tables] = ratios;
+    format!(
+        "| {book:30} | {library:>7} | {hand:>16} | {packed:>8} | {gecode:>8} | {with_tables:>17} | {note:38} |\n"
+    )
 }
 
 #[cfg(test)]
 mod tests {
     use super::*;
-    use crate::made_up;
 
-    fn page<'a>(measurements: &'a [Measurement], gecode: Option<&str>) -> Page<'a> {
-        Page {
-            measurements,
+    #[test]
+    fn the_page_is_filled_and_has_every_row() {
+        let row = |kind, book: &str, hand| Measurement {
+            kind,
+            book: book.into(),
+            note: String::new(),
+            library: 100.0,
+            others: [Some(hand), None, Some(30_000.0), Some(-1.0)],
+            rounds: 301,
+        };
+        let rows = |kind| [row(kind, "easy", 110.0), row(kind, "hard", 50.0)];
+        let measurements = Kind::ALL.map(rows);
+        let page = Page {
+            measurements: measurements.as_flattened(),
             subjects: &[],
-            seeds: &Seeds::FULL,
-            processor: "Some Processor 9".into(),
-            gecode: gecode.map(String::from),
-        }
-    }
-
-    #[test]
-    fn the_page_has_the_table_and_the_picture() {
-        let measurements = made_up::measurements();
-        let text = page(&measurements, Some("6.2.0")).text();
-        assert!(text.contains(&table(&measurements)));
-        assert!(text.contains("](bench.svg)"));
-        assert!(text.contains("Some Processor 9, 15 to 301 rounds a row"));
-        assert!(text.contains("Gecode 6.2.0"));
-        assert!(!text.contains("not found"));
-    }
-
-    #[test]
-    fn the_page_says_that_there_was_no_gecode() {
-        let measurements = made_up::measurements();
-        let text = page(&measurements, None).text();
-        assert_eq!(text.matches("Gecode was not found").count(), 2);
+            effort: &Effort::new(true),
+        };
+        let text = page.text();
+        assert!(!text.contains(['{', '}']), "{text}");
+        assert_eq!(text.matches("\n| easy ").count(), 7);
+        let ratios: String = text.split_whitespace().collect();
+        assert!(ratios.contains("|hard|100ns|2.00|-|0.003|-||"), "{ratios}");
+        let width = |line: &str| line.chars().count();
+        let widths: Vec<usize> = page.table().lines().map(width).collect();
+        assert!(widths.iter().all(|width| *width == widths[0]));
+        let counts = "slower by more than a tenth in 7, alike in 7, faster in 0";
+        assert!(text.contains(counts), "{text}");
+        assert_eq!(text.matches("**: hard (2.00). ").count(), 7);
+        assert!(text.contains("**Against the packed engine**: no figures."));
+        let picture = crate::picture::svg(page.measurements, "Some Processor 9");
+        assert_eq!(picture.matches(">hard<").count(), 7);
     }
 }

@@ -1,50 +1,33 @@
 //! Jobs timed in turn, round by round, so that a busy machine disturbs all of them alike.
 
+use crate::Effort;
 use std::time::{Duration, Instant};
 
-/// How long a race takes.
-pub struct Pace {
-    /// What one job's turns in one round fill.
-    round: Duration,
-    /// The most rounds, and the fewest, of jobs that take long.
-    rounds: usize,
-    fewest: usize,
-    /// What rounds past the fewest may take.
-    patience: Duration,
-}
+/// Something to be timed: the sum of these calls, each with its weight.
+pub type Job<'a> = Vec<(f64, Call<'a>)>;
+/// One call of something.
+pub type Call<'a> = Box<dyn Fn() + 'a>;
 
-impl Pace {
-    pub const FULL: Self = Self {
-        round: Duration::from_micros(400),
-        rounds: 301,
-        fewest: 15,
-        patience: Duration::from_secs(3),
+/// The time of each job in nanoseconds, for every round.
+pub fn race(jobs: &[Job], effort: &Effort) -> Vec<Vec<f64>> {
+    let turns = |job: &Job| {
+        job.iter()
+            .map(|(_, call)| turns_of(call, effort.round))
+            .collect()
     };
-
-    /// To see that everything works; the figures say little.
-    pub const QUICK: Self = Self {
-        round: Duration::from_micros(50),
-        rounds: 7,
-        fewest: 3,
-        patience: Duration::from_millis(50),
-    };
-}
-
-/// Something to be timed.
-pub type Job<'a> = Box<dyn Fn() + 'a>;
-
-/// The time of one turn of each job in nanoseconds, for every round.
-pub fn race(jobs: &[&Job], pace: &Pace) -> Vec<Vec<f64>> {
-    let turns: Vec<u32> = jobs.iter().map(|job| turns_of(job, pace.round)).collect();
-    let mut times = vec![Vec::with_capacity(pace.rounds); jobs.len()];
+    let turns: Vec<Vec<u32>> = jobs.iter().map(turns).collect();
+    let mut times = vec![Vec::new(); jobs.len()];
     let start = Instant::now();
-    for round in 0..pace.rounds {
-        if round >= pace.fewest && start.elapsed() > pace.patience {
+    for round in 0..effort.rounds {
+        if round >= effort.fewest && start.elapsed() > effort.patience {
             break;
         }
         for (i, job) in jobs.iter().enumerate() {
-            let time = run(job, turns[i]).as_secs_f64();
-            times[i].push(time * 1e9 / f64::from(turns[i]));
+            let calls = job.iter().zip(&turns[i]);
+            let time = |((weight, call), &turns): (&(f64, Call), &u32)| {
+                weight * run(call, turns).as_secs_f64() * 1e9 / f64::from(turns)
+            };
+            times[i].push(calls.map(time).sum());
         }
     }
     times
@@ -52,18 +35,41 @@ pub fn race(jobs: &[&Job], pace: &Pace) -> Vec<Vec<f64>> {
 
 /// As many turns as fill a round. Each number is tried three times, so that one that was held up does
 /// not count.
-fn turns_of(job: &Job, round: Duration) -> u32 {
+fn turns_of(call: &Call, round: Duration) -> u32 {
     let mut turns = 1;
-    while (0..3).any(|_| run(job, turns) < round) {
+    while (0..3).any(|_| run(call, turns) < round) {
         turns *= 2;
     }
     turns
 }
 
-fn run(job: &Job, turns: u32) -> Duration {
+fn run(call: &Call, turns: u32) -> Duration {
     let start = Instant::now();
     for _ in 0..turns {
-        job();
+        call();
     }
     start.elapsed()
+}
+
+/// The middle one of these times, or the mean of the middle two.
+pub fn median(mut times: Vec<f64>) -> f64 {
+    times.sort_by(f64::total_cmp);
+    let half = times.len() / 2;
+    match times.len() {
+        0 => f64::NAN,
+        odd if odd % 2 == 1 => times[half],
+        _ => (times[half - 1] + times[half]) / 2.0,
+    }
+}
+
+#[cfg(test)]
+mod tests {
+    use super::*;
+
+    #[test]
+    fn the_median_is_in_the_middle() {
+        assert_eq!(median(vec![9.0, 1.0, 2.0]), 2.0);
+        assert_eq!(median(vec![9.0, 1.0, 2.0, 4.0]), 3.0);
+        assert!(median(vec![]).is_nan());
+    }
 }

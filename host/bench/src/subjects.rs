@@ -1,63 +1,136 @@
 //! The books that are timed, and the lists that are timed on them.
 
 use crate::hard;
-use crate::measurement::Kind;
-use crate::runs::{agreed, domains_of};
-use crate::shapes::{medium_of_12, medium_of_8, size_of, spoilt};
+use crate::measurement::{thousands, Kind};
+use crate::opponents::{finish, Packed};
 use conformance::{
-    all_values, back, harbour, narrow, plant, regular, write, Book, Order, Random, FINISH, MARK,
+    all_values, back, harbour, mend, narrow, plant, regular, write, Book, Order, Random, Sheet,
+    BLOCK, FINISH, MARK,
 };
 
 /// As many of mark, narrow and back as a list has room for.
 pub const TURNS: usize = 85;
 
 /// How many visits a long list has.
-pub const VISITS: usize = 15;
+const VISITS: usize = 15;
 
-/// A book and the lists that are timed on it.
+/// A book, and what is timed on it.
 pub struct Subject {
     pub name: String,
     /// How large the book is, in words.
     pub size: String,
     pub book: Vec<u8>,
-    /// What is timed on it.
     pub kinds: &'static [Kind],
-    /// Lists of one narrow.
-    pub narrows: Vec<Order>,
-    /// Mark, narrow and back, over and over, with each of the narrows.
-    pub to_and_fro: Vec<Order>,
-    /// 17 orders of all kinds, and 256.
-    pub short: Vec<Order>,
-    pub long: Vec<Order>,
+    /// Narrows that cut rows and leave the session alive.
+    narrows: Vec<Order>,
 }
 
+impl Subject {
+    fn new(name: &str, book: &Book, kinds: &'static [Kind]) -> Self {
+        let bytes = write(book);
+        Self {
+            name: name.into(),
+            size: size_of(book, bytes.len()),
+            kinds,
+            narrows: match kinds {
+                CHECKED => vec![],
+                _ => narrows(book, &bytes),
+            },
+            book: bytes,
+        }
+    }
+
+    /// The lists that are run to time this kind.
+    pub fn lists(&self, kind: Kind) -> Vec<Vec<Order>> {
+        let narrows = &self.narrows;
+        let turn = |narrow: &Order| [MARK, *narrow, back(1)];
+        let visits = || (0..VISITS).flat_map(|i| visit(narrows, 6 * i));
+        match kind {
+            Kind::Check | Kind::Opening => vec![vec![]],
+            Kind::Narrow => narrows.iter().map(|it| vec![*it]).collect(),
+            Kind::ToAndFro => vec![narrows.iter().cycle().take(TURNS).flat_map(turn).collect()],
+            Kind::Finish => vec![vec![FINISH]],
+            Kind::Short => vec![visits().take(17).collect()],
+            Kind::Long => vec![visits().chain([FINISH]).collect()],
+        }
+    }
+}
+
+const CHECKED: &[Kind] = &[Kind::Check];
+
+/// Every book that is timed.
 pub fn subjects() -> Vec<Subject> {
-    let mut subjects = Vec::new();
-    let mut add = |name: &str, book: Book, kinds| {
-        subjects.push(subject(name.into(), &book, kinds));
+    let mut all = Vec::new();
+    let mut add = |name: &str, book: Book, kinds: &'static [Kind]| {
+        all.push(Subject::new(name, &book, kinds));
     };
-    add("small, harbour H", harbour(), &Kind::ALL);
     let small = planted(regular(8, 8, 4, 60, 3));
+    let full = |values, width| regular(16, values, 8, 508, width);
+    add("small, harbour H", harbour(), &Kind::ALL);
     add("small, 8 columns", small, &Kind::ALL);
     add("medium, 8 columns", planted(medium_of_8()), &Kind::ALL);
     add("medium, 12 columns", planted(medium_of_12()), &Kind::ALL);
-    let full = |values, width| regular(16, values, 8, 508, width);
     for width in 2..=4 {
         let name = format!("full, width {width}");
         add(&name, planted(full(32, width)), &Kind::ALL);
     }
-    for hard in hard::books() {
-        add(&hard.name, hard.book, hard.kinds);
+    for (name, book, kinds) in hard::books() {
+        add(&name, book, kinds);
     }
-    add(
-        "full head, no rows",
-        regular(16, 32, 8, 0, 4),
-        &[Kind::Check],
-    );
+    add("full head, no rows", regular(16, 32, 8, 0, 4), CHECKED);
     // 18 is no power of two: the rows joined by `|` do not settle it alone.
-    add("full, 18 values", full(18, 4), &[Kind::Check]);
-    subjects.extend(spoilt(&full(32, 4)).map(only_checked));
-    subjects
+    add("full, 18 values", full(18, 4), CHECKED);
+    all.extend(spoilt(&full(32, 4)));
+    all
+}
+
+/// This full book with a value too large in its last row, and with a wrong check in its last block.
+fn spoilt(book: &Book) -> [Subject; 2] {
+    let last = 32 * BLOCK;
+    let mut row = Subject::new("full, wrong last row", book, CHECKED);
+    row.size += "; a value too large in the last row";
+    row.book[last + 504] = 32;
+    mend(&mut row.book);
+    let mut check = Subject::new("full, wrong last check", book, CHECKED);
+    check.size += "; a wrong check in the last block";
+    check.book[last + 508] ^= 1;
+    [row, check]
+}
+
+/// A chain of sheets, of two columns and of three in turn.
+#[rustfmt::skip]
+fn medium_of_8() -> Book {
+    chosen(&[12; 8], &[(&[0, 1], 100), (&[1, 2, 3], 100), (&[3, 4], 100), (&[4, 5, 6], 100)])
+}
+
+/// A shop's list: columns of all sizes, and sheets from a loose pair to a narrow four.
+#[rustfmt::skip]
+fn medium_of_12() -> Book {
+    chosen(&[16, 8, 12, 4, 10, 6, 8, 5, 12, 3, 6, 2], &[
+        (&[0, 1], 64), (&[0, 2, 4], 200), (&[1, 3, 5], 90),
+        (&[4, 6, 8], 250), (&[5, 7, 8, 9], 300), (&[2, 9, 10, 11], 180),
+    ])
+}
+
+/// Sheets of these columns with so many seeded rows, no row twice.
+fn chosen(counts: &[u8], sheets: &[(&[u8], usize)]) -> Book {
+    let random = &mut Random::new(0);
+    let mut sheet = |&(columns, count): &(&[u8], usize)| {
+        let mut rows: Vec<Vec<u8>> = Vec::new();
+        while rows.len() < count {
+            let value = |&column: &u8| random.below(counts[usize::from(column)].into()) as u8;
+            let row: Vec<u8> = columns.iter().map(value).collect();
+            if !rows.contains(&row) {
+                rows.push(row);
+            }
+        }
+        let columns = columns.to_vec();
+        Sheet { columns, rows }
+    };
+    Book {
+        counts: counts.to_vec(),
+        sheets: sheets.iter().map(&mut sheet).collect(),
+    }
 }
 
 /// The middle value of each column: a full set of harbour H, and of every planted book.
@@ -75,94 +148,61 @@ fn planted(mut book: Book) -> Book {
 /// the middle values are none.
 fn aim_of(book: &Book, bytes: &[u8]) -> Vec<u8> {
     let middle = middle(book);
-    let narrows = (0..).zip(&middle).map(|(c, v)| narrow(c, 1 << v));
-    let orders: Vec<Order> = narrows.chain([FINISH]).collect();
-    let finish = |orders: &[Order]| {
-        let (_, answers) = agreed(bytes, orders.as_flattened());
-        answers.last().map(domains_of).unwrap_or_default()
+    let fits = |sheet: &Sheet| {
+        let values = sheet.columns.iter().map(|&c| middle[usize::from(c)]);
+        sheet.rows.contains(&values.collect())
     };
-    let first = finish(&[FINISH]);
-    if finish(&orders)[0] != 0 || first[0] == 0 {
+    if book.sheets.iter().all(fits) {
         return middle;
     }
-    let domains = first[..middle.len()].iter();
-    domains
-        .map(|domain| domain.trailing_zeros() as u8)
-        .collect()
+    match finish::<Packed>(bytes).domains {
+        [0, ..] => middle,
+        set => set.map(|bit| bit.trailing_zeros() as u8).to_vec(),
+    }
 }
 
 /// Narrows of every column that a sheet has, to a half, a quarter, an eighth and a sixteenth of its
 /// values in turn. Every value has its rows at the opening, so each of these cuts rows.
-fn narrows(book: &Book, aim: &[u8]) -> Vec<Order> {
+fn narrows(book: &Book, bytes: &[u8]) -> Vec<Order> {
     let mut narrows = Vec::new();
-    for (column, &value) in (0..).zip(aim) {
+    for ((column, value), &count) in (0..).zip(aim_of(book, bytes)).zip(&book.counts) {
         let mut sheets = book.sheets.iter();
         if sheets.any(|sheet| sheet.columns.contains(&column)) {
-            let count = book.counts[usize::from(column)];
-            let kept = ((count / 2) >> (column % 4)).max(1);
-            narrows.push(narrow(
-                column,
-                all_values(count) & all_values(kept) << value,
-            ));
+            let kept = all_values(((count / 2) >> (column % 4)).max(1));
+            narrows.push(narrow(column, all_values(count) & kept << value));
         }
     }
     narrows
 }
 
-fn subject(name: String, book: &Book, kinds: &'static [Kind]) -> Subject {
-    let bytes = write(book);
-    let mut subject = only_checked((name, size_of(book), bytes));
-    subject.kinds = kinds;
-    if kinds == [Kind::Check] {
-        return subject;
-    }
-    let narrows = narrows(book, &aim_of(book, &subject.book));
-    let turn = |narrow: &Order| [MARK, *narrow, back(1)];
-    let visits = (0..VISITS).flat_map(|i| visit(&narrows, 6 * i));
-    Subject {
-        to_and_fro: narrows.iter().cycle().take(TURNS).flat_map(turn).collect(),
-        short: visit(&narrows, 0).to_vec(),
-        long: visits.chain([FINISH]).collect(),
-        narrows,
-        ..subject
-    }
-}
-
-fn only_checked((name, size, book): (String, String, Vec<u8>)) -> Subject {
-    Subject {
-        name,
-        size,
-        book,
-        kinds: &[Kind::Check],
-        narrows: vec![],
-        to_and_fro: vec![],
-        short: vec![],
-        long: vec![],
-    }
-}
-
 /// What a buyer does in one visit, with six narrows from this one on: choices, a look at what they
 /// come to, two ways of going on, and home.
+#[rustfmt::skip]
 fn visit(narrows: &[Order], first: usize) -> [Order; 17] {
     let mut narrows = narrows.iter().cycle().skip(first);
     let [a, b, c, d, e, f] = std::array::from_fn(|_| *narrows.next().unwrap_or(&MARK));
     [
-        MARK,
-        a,
-        b,
-        MARK,
-        c,
-        d,
-        FINISH,
-        MARK,
-        e,
-        f,
-        FINISH,
-        back(2),
-        f,
-        MARK,
-        c,
-        FINISH,
-        back(1),
+        MARK, a, b, MARK, c, d, FINISH, MARK, e, f, FINISH,
+        back(2), f, MARK, c, FINISH, back(1),
     ]
+}
+
+fn size_of(book: &Book, bytes: usize) -> String {
+    let sheets = &book.sheets;
+    let values = span(book.counts.iter().map(|&count| count.into()));
+    let rows = span(sheets.iter().map(|sheet| sheet.rows.len()));
+    let widths = span(sheets.iter().map(|sheet| sheet.columns.len()));
+    let (columns, sheets, bytes) = (book.counts.len(), sheets.len(), thousands(bytes as u64));
+    format!(
+        "{columns} columns of {values} values, {sheets} sheets of {rows} rows, width {widths}; \
+         {bytes} bytes"
+    )
+}
+
+/// The least and the largest number, or the only one.
+fn span(numbers: impl Iterator<Item = usize> + Clone) -> String {
+    match (numbers.clone().min(), numbers.max()) {
+        (Some(least), Some(most)) if least < most => format!("{least} to {most}"),
+        (least, _) => least.unwrap_or(0).to_string(),
+    }
 }

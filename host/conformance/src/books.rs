@@ -1,53 +1,32 @@
 //! Described books: the ones that have a name, and any other from a seed.
 
-use crate::Random;
+use crate::{kit, Random};
 use reference::{Book, Sheet};
 
 /// Row counts at which the number of blocks changes, or the last row of a block is used.
-pub const BLOCK_EDGES: [usize; 13] = [0, 1, 126, 127, 128, 253, 254, 255, 380, 381, 382, 507, 508];
+const BLOCK_EDGES: [usize; 13] = [0, 1, 126, 127, 128, 253, 254, 255, 380, 381, 382, 507, 508];
+
+/// The columns of harbour book H.
+pub const WIDTH: u8 = 0;
+/// Its second column.
+pub const MOTOR: u8 = 1;
+/// Its third column.
+pub const BOARD: u8 = 2;
 
 /// Harbour book H of document 01.
 pub fn harbour() -> Book {
-    let sheet = |columns: [u8; 2], rows: &[[u8; 2]]| Sheet {
-        columns: columns.to_vec(),
-        rows: rows.iter().map(|row| row.to_vec()).collect(),
-    };
-    Book {
-        counts: vec![3, 2, 2],
-        sheets: vec![
-            sheet([0, 1], &[[0, 0], [1, 0], [1, 1], [2, 1]]),
-            sheet([1, 2], &[[0, 0], [0, 1], [1, 1]]),
-        ],
-    }
+    kit::read_contents(include_str!("../vectors/contents/harbour.txt"))
 }
 
 /// One column of one value, no sheet.
 pub fn tiny() -> Book {
-    Book {
-        counts: vec![1],
-        sheets: vec![],
-    }
-}
-
-/// One column of two values, and one sheet of it with n rows of zero.
-pub fn one_sheet(n: usize) -> Book {
-    Book {
-        counts: vec![2],
-        sheets: vec![Sheet {
-            columns: vec![0],
-            rows: vec![vec![0]; n],
-        }],
-    }
+    regular(1, 1, 0, 0, 1)
 }
 
 /// A book all of whose columns and all of whose sheets are of one size; its rows are seeded.
 pub fn regular(columns: usize, values: u8, sheets: usize, rows: usize, width: usize) -> Book {
     let random = &mut Random::new(0);
-    let counts = vec![values; columns];
-    let sheets = (0..sheets)
-        .map(|_| sheet(random, &counts, width, rows))
-        .collect();
-    Book { counts, sheets }
+    with_sheets(random, vec![values; columns], sheets, |_| (rows, width))
 }
 
 /// Any book of the format, from one column alone to 33 blocks.
@@ -66,34 +45,26 @@ pub fn any_book(random: &mut Random) -> Book {
     };
     // How many in 4 of a large book's sheets surely have four blocks.
     let filled = random.within(0..=4);
-    let sheets = (0..sheets)
-        .map(|_| {
-            let rows = match size {
-                0..=2 => random.within(0..=6),
-                3..=6 => random.within(0..=40),
-                7..=8 => random.pick(&BLOCK_EDGES),
-                _ if random.below(4) < filled => random.within(382..=508),
-                _ => random.within(0..=508),
-            };
-            let width = random.within(1..=columns.min(4));
-            sheet(random, &counts, width, rows)
-        })
-        .collect();
-    Book { counts, sheets }
+    with_sheets(random, counts, sheets, |random| {
+        let rows = match size {
+            0..=2 => random.within(0..=6),
+            3..=6 => random.within(0..=40),
+            7..=8 => random.pick(&BLOCK_EDGES),
+            _ if random.below(4) < filled => random.within(382..=508),
+            _ => random.within(0..=508),
+        };
+        (rows, random.within(1..=columns.min(4)))
+    })
 }
 
 /// Up to three columns of up to four values, up to three sheets of up to eight rows.
 pub(crate) fn tiny_book(random: &mut Random) -> Book {
     let columns = random.within(1..=3);
     let counts: Vec<u8> = (0..columns).map(|_| random.within(1..=4) as u8).collect();
-    let sheets = (0..random.within(0..=3))
-        .map(|_| {
-            let rows = random.within(0..=8);
-            let width = random.within(1..=columns);
-            sheet(random, &counts, width, rows)
-        })
-        .collect();
-    Book { counts, sheets }
+    let sheets = random.within(0..=3);
+    with_sheets(random, counts, sheets, |random| {
+        (random.within(0..=8), random.within(1..=columns))
+    })
 }
 
 /// Columns that several sheets share, and few rows for each value of a column: a value that goes
@@ -105,26 +76,18 @@ pub(crate) fn small_book(random: &mut Random) -> Book {
         .map(|_| random.within(1..=most) as u8)
         .collect();
     let rows_of_a_value = random.within(1..=8);
-    let sheets = (0..random.within(1..=8))
-        .map(|_| {
-            let rows = random.within(1..=most * rows_of_a_value);
-            let width = random.within(1..=columns.min(4));
-            sheet(random, &counts, width, rows)
-        })
-        .collect();
-    Book { counts, sheets }
+    let sheets = random.within(1..=8);
+    with_sheets(random, counts, sheets, |random| {
+        let rows = random.within(1..=most * rows_of_a_value);
+        (rows, random.within(1..=columns.min(4)))
+    })
 }
 
 /// Sixteen columns of 32 values, eight sheets of 508 rows, of any widths.
 pub(crate) fn largest_book(random: &mut Random) -> Book {
-    let counts = vec![32; 16];
-    let sheets = (0..8)
-        .map(|_| {
-            let width = random.within(1..=4);
-            sheet(random, &counts, width, 508)
-        })
-        .collect();
-    Book { counts, sheets }
+    with_sheets(random, vec![32; 16], 8, |random| {
+        (508, random.within(1..=4))
+    })
 }
 
 /// Columns in a ring, each as the one before it says, and the last one more than the first: a value
@@ -223,6 +186,21 @@ fn count(random: &mut Random) -> u8 {
         1 => 32,
         _ => random.within(1..=32) as u8,
     }
+}
+
+/// A book of these columns' values and so many seeded sheets, each of the rows and the width that it gets.
+fn with_sheets(
+    random: &mut Random,
+    counts: Vec<u8>,
+    sheets: usize,
+    size: impl Fn(&mut Random) -> (usize, usize),
+) -> Book {
+    let sheets = (0..sheets).map(|_| {
+        let (rows, width) = size(random);
+        sheet(random, &counts, width, rows)
+    });
+    let sheets = sheets.collect();
+    Book { counts, sheets }
 }
 
 fn sheet(random: &mut Random, counts: &[u8], width: usize, rows: usize) -> Sheet {

@@ -1,16 +1,7 @@
 //! One seeded input: a book, damaged or not, or bytes that never were one.
 
-use crate::{any_book, mend, write, Damage, Random, Region, BLOCK, LONGEST};
+use crate::{any_book, mend, write, Random, Region, BLOCK, LONGEST};
 use reference::Book;
-
-/// One damage, and the region that it was aimed at.
-#[derive(Clone, Copy, Debug, PartialEq, Eq)]
-pub struct Hit {
-    /// The region.
-    pub region: Region,
-    /// What was done.
-    pub damage: Damage,
-}
 
 /// When the checks were made right again. Without it most damage ends as a wrong check.
 #[derive(Clone, Copy, Debug, PartialEq, Eq)]
@@ -23,71 +14,38 @@ pub enum Mend {
     AtTheEnd,
 }
 
-/// How the bytes of a case came about.
-#[derive(Clone, Debug, PartialEq, Eq)]
-pub enum Story {
-    /// A book that must be accepted.
-    Valid,
-    /// A book with one damage or two.
-    Damaged {
-        /// The damage, in order.
-        hits: Vec<Hit>,
-        /// When the checks were made right.
-        mend: Mend,
-    },
-    /// Bytes from chance.
-    Noise,
-}
-
 /// One seeded input.
 #[derive(Clone, Debug)]
 pub struct Case {
     /// The bytes to check.
     pub bytes: Vec<u8>,
-    /// How they came about.
-    pub story: Story,
+    /// The regions of a right book that were damaged, in this order; nothing for bytes from chance.
+    pub damaged: Option<Vec<Region>>,
+    /// When its checks were made right again.
+    pub mend: Mend,
 }
 
 impl Case {
     /// The case of this seed.
     pub fn new(seed: u64) -> Self {
         let random = &mut Random::new(seed);
-        match random.below(20) {
-            0 => Self::valid(random),
-            1..=7 => Self::damaged(random, 1, Mend::AtTheEnd),
-            8..=10 => Self::damaged(random, 1, Mend::Never),
-            11..=15 => Self::damaged(random, 2, Mend::AtTheEnd),
-            16 => Self::damaged(random, 2, Mend::Never),
-            17 => Self::damaged(random, 2, Mend::BeforeTheLast),
-            _ => Self::noise(random),
-        }
-    }
-
-    fn valid(random: &mut Random) -> Self {
-        Self {
-            bytes: write(&any_book(random)),
-            story: Story::Valid,
-        }
-    }
-
-    fn damaged(random: &mut Random, times: usize, when: Mend) -> Self {
+        let (times, mend) = match random.below(20) {
+            0 => (0, Mend::Never),
+            1..=7 => (1, Mend::AtTheEnd),
+            8..=10 => (1, Mend::Never),
+            11..=15 => (2, Mend::AtTheEnd),
+            16 => (2, Mend::Never),
+            17 => (2, Mend::BeforeTheLast),
+            _ => return Self::noise(random),
+        };
         let book = any_book(random);
-        let whole = write(&book);
-        let mut bytes = whole.clone();
-        let mut hits = Vec::with_capacity(times);
-        for time in 0..times {
-            if when == Mend::BeforeTheLast && time + 1 == times {
-                mend(&mut bytes);
-            }
-            let hit = hit(random, &book, &whole);
-            hit.damage.apply(&mut bytes);
-            hits.push(hit);
+        let (bytes, regions) = damaged(random, &book, times, mend);
+        let damaged = Some(regions);
+        Self {
+            bytes,
+            damaged,
+            mend,
         }
-        if when == Mend::AtTheEnd {
-            mend(&mut bytes);
-        }
-        let story = Story::Damaged { hits, mend: when };
-        Self { bytes, story }
     }
 
     fn noise(random: &mut Random) -> Self {
@@ -106,19 +64,32 @@ impl Case {
         if !random.once_in(3) {
             mend(&mut bytes);
         }
-        let story = Story::Noise;
-        Self { bytes, story }
+        Self {
+            bytes,
+            damaged: None,
+            mend: Mend::Never,
+        }
     }
 }
 
-/// Some damage to some region that the book has.
-fn hit(random: &mut Random, book: &Book, bytes: &[u8]) -> Hit {
-    loop {
+/// The bytes of a book after so many times damage, and the regions that it hit.
+fn damaged(random: &mut Random, book: &Book, times: usize, when: Mend) -> (Vec<u8>, Vec<Region>) {
+    let whole = write(book);
+    let mut bytes = whole.clone();
+    let mut regions = Vec::new();
+    while regions.len() < times {
+        if when == Mend::BeforeTheLast && regions.len() + 1 == times {
+            mend(&mut bytes);
+        }
         let region = random.pick(&Region::ALL);
-        if let Some(damage) = region.aim(random, book, bytes) {
-            return Hit { region, damage };
+        if region.damage(random, book, &whole, &mut bytes) {
+            regions.push(region);
         }
     }
+    if when == Mend::AtTheEnd {
+        mend(&mut bytes);
+    }
+    (bytes, regions)
 }
 
 /// A head that is right in its first fields and made of small numbers after them.

@@ -1,96 +1,128 @@
-//! One run by the library and by the reference, compared byte for byte.
+//! The library, or calls in its place, against the reference: the numbers, every byte of the space,
+//! and what lies around.
 
 use crate::spelled;
 
+/// The two calls.
+#[derive(Clone, Copy, Debug)]
+pub struct Calls {
+    /// Checks a book.
+    pub check: fn(&[u8]) -> u64,
+    /// Runs a list.
+    pub run: fn(&[u8], &[u8], &mut [u8]) -> u64,
+}
+
+/// The proved library's.
+pub const LIBRARY: Calls = Calls {
+    check: fitting::check_number,
+    run: fitting::run_number,
+};
+
 /// The bytes in front of everything that the library is lent, and after it. An odd number, so that
 /// nothing lies on a boundary.
-const FENCE: usize = 97;
+pub const FENCE: usize = 97;
 
-/// A copy of some bytes between two fences, which nobody may change.
-struct Fenced {
-    memory: Vec<u8>,
+/// The number that the library and the reference both give; they must give the same.
+pub fn agreed(book: &[u8]) -> u64 {
+    told(compare(&LIBRARY, book))
+}
+
+/// The number and the space, of so many bytes, that the library and the reference both give for
+/// these orders over this book; they must give the same.
+pub fn agreed_run(book: &[u8], orders: &[u8], space: usize) -> (u64, Vec<u8>) {
+    told(compare_run(&LIBRARY, &[FENCE], book, orders, space))
+}
+
+fn told<T>(result: Result<T, String>) -> T {
+    result.unwrap_or_else(|difference| panic!("{difference}"))
+}
+
+/// The number of the reference for this book, if the call gives the same.
+pub fn compare(calls: &Calls, book: &[u8]) -> Result<u64, String> {
+    let expected = reference::check(book);
+    let given = (calls.check)(book);
+    same("check", given, expected)
+}
+
+/// The number and the space of the reference, if the call gives the same with fences of each of
+/// these lengths around what it is lent. A refused run must leave the space as it was, and any run
+/// the book, the orders and the fences.
+pub fn compare_run(
+    calls: &Calls,
+    fences: &[usize],
+    book: &[u8],
+    orders: &[u8],
+    space: usize,
+) -> Result<(u64, Vec<u8>), String> {
+    let untouched = before(space, 3);
+    let mut expected = untouched.to_vec();
+    let number = reference::run(book, orders, &mut expected);
+    if number >= 65_536 && *expected != *untouched {
+        return Err("the reference's refused run touched the space".into());
+    }
+    for &fence in fences {
+        let [mut lent_book, mut lent_orders, mut lent_space] =
+            [(book, 1), (orders, 2), (&*untouched, 4)]
+                .map(|(bytes, seed)| Lent::new(bytes, fence, seed));
+        let given = (calls.run)(lent_book.bytes(), lent_orders.bytes(), lent_space.bytes());
+        same("run", given, number)?;
+        lent_space.holds(&expected, "answers")?;
+        lent_book.holds(book, "book")?;
+        lent_orders.holds(orders, "orders")?;
+    }
+    Ok((number, expected))
+}
+
+fn same(call: &str, given: u64, expected: u64) -> Result<u64, String> {
+    if given == expected {
+        return Ok(given);
+    }
+    let [given, expected] = [given, expected].map(spelled);
+    Err(format!("{call} gives {given} and not {expected}"))
+}
+
+/// A copy of some bytes between two fences, which nobody may change. Without fences it is a piece of
+/// the heap of exactly these bytes, and a step outside is one out of the piece.
+struct Lent {
+    memory: Box<[u8]>,
+    fence: usize,
     seed: u8,
 }
 
-impl Fenced {
-    fn new(bytes: &[u8], seed: u8) -> Self {
-        let mut memory = before(bytes.len() + 2 * FENCE, seed);
-        memory[FENCE..FENCE + bytes.len()].copy_from_slice(bytes);
-        Self { memory, seed }
+impl Lent {
+    fn new(bytes: &[u8], fence: usize, seed: u8) -> Self {
+        let mut memory = before(bytes.len() + 2 * fence, seed);
+        memory[fence..fence + bytes.len()].copy_from_slice(bytes);
+        Self {
+            memory,
+            fence,
+            seed,
+        }
     }
 
-    fn bytes(&self) -> &[u8] {
-        &self.memory[FENCE..self.memory.len() - FENCE]
+    fn bytes(&mut self) -> &mut [u8] {
+        let end = self.memory.len() - self.fence;
+        &mut self.memory[self.fence..end]
     }
 
-    fn bytes_mut(&mut self) -> &mut [u8] {
-        let end = self.memory.len() - FENCE;
-        &mut self.memory[FENCE..end]
-    }
-
-    fn fences_stand(&self) -> bool {
-        let before = before(self.memory.len(), self.seed);
-        let end = self.memory.len() - FENCE;
-        self.memory[..FENCE] == before[..FENCE] && self.memory[end..] == before[end..]
+    /// Whether these bytes are there now, and the fences around them as they were.
+    fn holds(&mut self, expected: &[u8], what: &str) -> Result<(), String> {
+        let given = self.bytes();
+        if let Some(at) = (0..given.len()).find(|&at| given[at] != expected[at]) {
+            let [given, expected] = [given[at], expected[at]];
+            let place = format!("byte {at} of the {what}, 72 × {} + {}", at / 72, at % 72);
+            return Err(format!("{place}: {given} and not {expected}"));
+        }
+        if self.memory != Self::new(expected, self.fence, self.seed).memory {
+            return Err(format!("changed outside of the {what}"));
+        }
+        Ok(())
     }
 }
 
 /// So many bytes that are there before a call; none is zero, as most of an answer are.
-fn before(length: usize, seed: u8) -> Vec<u8> {
+fn before(length: usize, seed: u8) -> Box<[u8]> {
     (0..length)
         .map(|i| (i as u8).wrapping_mul(37).wrapping_add(seed) | 0x40)
         .collect()
-}
-
-/// The number and the space, of so many bytes, that the library and the reference both give for
-/// these orders over this book; they must give the same. A refused run must leave the space as it
-/// was, and any run the book, the orders and what lies around.
-pub fn agreed_run(book: &[u8], orders: &[u8], space: usize) -> (u64, Vec<u8>) {
-    let untouched = before(space, 3);
-    let mut expected = untouched.clone();
-    let reference = reference::run(book, orders, &mut expected);
-
-    let lent_book = Fenced::new(book, 1);
-    let lent_orders = Fenced::new(orders, 2);
-    let mut lent_space = Fenced::new(&untouched, 4);
-    let library = fitting::run_number(
-        lent_book.bytes(),
-        lent_orders.bytes(),
-        lent_space.bytes_mut(),
-    );
-
-    assert!(
-        library == reference,
-        "the library gives {}, the reference {}",
-        spelled(library),
-        spelled(reference)
-    );
-    if let Some(difference) = difference(lent_space.bytes(), &expected) {
-        panic!("{difference}");
-    }
-    assert!(lent_book.bytes() == book, "the book was changed");
-    assert!(lent_orders.bytes() == orders, "the orders were changed");
-    for (lent, what) in [
-        (&lent_book, "book"),
-        (&lent_orders, "orders"),
-        (&lent_space, "answers"),
-    ] {
-        assert!(lent.fences_stand(), "changed outside of the {what}");
-    }
-    if library >= 65_536 {
-        assert!(expected == untouched, "a refused run touched the space");
-    }
-    (library, expected)
-}
-
-/// The first byte of the space in which the two differ, in words.
-fn difference(library: &[u8], reference: &[u8]) -> Option<String> {
-    let at = (0..library.len()).find(|&at| library[at] != reference[at])?;
-    Some(format!(
-        "answer {}, byte {}: the library has {}, the reference {}",
-        at / 72,
-        at % 72,
-        library[at],
-        reference[at]
-    ))
 }

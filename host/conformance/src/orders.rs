@@ -1,11 +1,22 @@
 //! Orders as their 8 bytes, right ones and wrong ones.
 
-use crate::{Book, Order, Random};
+use crate::{tiny, Book, Order, Random};
+use reference::{all_values, session, Kind};
 
 /// Mark.
 pub const MARK: Order = [2, 0, 0, 0, 0, 0, 0, 0];
 /// Finish.
 pub const FINISH: Order = [4, 0, 0, 0, 0, 0, 0, 0];
+/// An order of no kind, which is refused with 20 and changes nothing.
+pub const NO_KIND: Order = [200, 0, 0, 0, 0, 0, 0, 0];
+
+/// Whether a full set is searched for: the order is a finish and isn't refused, which its bytes alone decide.
+pub fn searches(order: &Order) -> bool {
+    Kind::of(order) == Kind::Finish && session(&tiny(), &[*order])[1].refusal == 0
+}
+
+/// The first number from 1 on that no kind has; `Kind::ALL` has the other kinds too.
+const NEXT_KIND: u8 = Kind::ALL.len() as u8;
 
 /// Narrow a column to the values of this mask.
 pub fn narrow(column: u8, mask: u32) -> Order {
@@ -21,11 +32,6 @@ pub fn back(m: u8) -> Order {
 /// Document 01's example on H: mark, narrow board 1, finish, back 1, back 1, narrow width 4.
 pub fn example_orders() -> [Order; 6] {
     [MARK, narrow(2, 1), FINISH, back(1), back(1), narrow(0, 4)]
-}
-
-/// All values of a column that has so many.
-pub fn all_values(count: u8) -> u32 {
-    u32::MAX >> (32 - count)
 }
 
 /// How often each kind of order comes in a list, by its first letter; w is a wrong one.
@@ -108,7 +114,8 @@ fn wrong_order(random: &mut Random, book: &Book, depth: u8) -> Order {
     match random.below(9) {
         0 => {
             let mut order = any_bytes(random);
-            order[0] = random.pick(&[0, 0, 5, 5, 6, 7, 8, 16, 128, 129, 255]);
+            let [a, b, c, d] = [0, 1, 2, 3].map(|by| NEXT_KIND + by);
+            order[0] = random.pick(&[0, 0, a, a, b, c, d, 16, 128, 129, 255]);
             order
         }
         1 => {
@@ -150,6 +157,6 @@ fn any_bytes(random: &mut Random) -> Order {
             *byte = 0;
         }
     }
-    order[0] = random.within(0..=6) as u8;
+    order[0] = random.within(0..=usize::from(NEXT_KIND) + 1) as u8;
     order
 }

@@ -26,7 +26,7 @@ pub fn program() -> PathBuf {
     program
 }
 
-/// A folder of its own for one test, gone when the test is over.
+/// A folder of its own for one test or command, gone when that is over.
 #[derive(Debug)]
 pub struct Folder(PathBuf);
 
@@ -36,6 +36,11 @@ impl Folder {
         let folder = env::temp_dir().join(format!("fit-{}-{test}", process::id()));
         fs::create_dir_all(&folder).expect("a folder for the test");
         Self(folder)
+    }
+
+    /// Where it is.
+    pub fn path(&self) -> &Path {
+        &self.0
     }
 
     /// What the program prints with this book, if any, as book.bin, and the orders in pieces.

@@ -60,26 +60,3 @@ impl Random {
         }
     }
 }
-
-#[cfg(test)]
-mod tests {
-    use super::*;
-
-    #[test]
-    fn the_stream_is_splitmix64() {
-        let mut random = Random::new(1_234_567);
-        let first = [6_457_827_717_110_365_317, 3_203_168_211_198_807_973];
-        assert_eq!([random.bits(), random.bits()], first);
-    }
-
-    #[test]
-    fn numbers_stay_in_their_range() {
-        let mut random = Random::new(0);
-        let mut seen = [false; 6];
-        for _ in 0..1_000 {
-            seen[random.within(2..=5)] = true;
-        }
-        assert_eq!(seen, [false, false, true, true, true, true]);
-        assert_eq!(random.below(0), 0);
-    }
-}

@@ -1,13 +1,13 @@
 //! The regions of a book, each with the damage that aims at it.
 
-use crate::{Damage, Random, BLOCK, LONGEST, ROWS_OF_A_BLOCK};
-use reference::{Book, Sheet};
+use crate::{Random, BLOCK, LONGEST, ROWS_OF_A_BLOCK};
+use reference::Book;
 
 /// Bytes that are near some limit of the format.
 const NEAR_LIMITS: [u8; 16] = [0, 1, 2, 3, 4, 5, 8, 9, 16, 17, 32, 33, 252, 253, 254, 255];
 
 /// A part of the format that damage aims at.
-#[derive(Clone, Copy, Debug, PartialEq, Eq)]
+#[derive(Clone, Copy, Debug, PartialEq, Eq, PartialOrd, Ord)]
 pub enum Region {
     /// The length in bytes.
     Length,
@@ -15,28 +15,12 @@ pub enum Region {
     BlockCount,
     /// The check of any block.
     Check,
-    /// The letters FGB1.
-    Letters,
-    /// Byte 4, the columns C.
-    Columns,
-    /// Byte 5, the sheets S.
-    Sheets,
-    /// Bytes 6 and 7.
-    Zeros,
-    /// Bytes 8 to 23, the values V.
-    Values,
-    /// The width of a used entry.
-    Width,
-    /// Bytes 1 to 4 of a used entry.
-    ColumnNumbers,
-    /// Byte 5 of a used entry.
-    EntryZero,
-    /// The row count of a used entry.
-    RowCount,
+    /// From one byte of the head to another.
+    Head(usize, usize),
+    /// From one byte of a used entry to another.
+    Entry(usize, usize),
     /// Any byte of an entry from S on.
     UnusedEntry,
-    /// Bytes 88 to 507.
-    HeadZeros,
     /// A value of a used row.
     RowValue,
     /// A byte after the values of a used row.
@@ -55,17 +39,17 @@ impl Region {
         Self::Length,
         Self::BlockCount,
         Self::Check,
-        Self::Letters,
-        Self::Columns,
-        Self::Sheets,
-        Self::Zeros,
-        Self::Values,
-        Self::Width,
-        Self::ColumnNumbers,
-        Self::EntryZero,
-        Self::RowCount,
+        Self::Head(0, 3),  // the letters FGB1
+        Self::Head(4, 4),  // C
+        Self::Head(5, 5),  // S
+        Self::Head(6, 7),  // zeros
+        Self::Head(8, 23), // the values V
+        Self::Entry(0, 0), // width
+        Self::Entry(1, 4), // column numbers
+        Self::Entry(5, 5), // zero
+        Self::Entry(6, 7), // row count
         Self::UnusedEntry,
-        Self::HeadZeros,
+        Self::Head(88, 507), // zeros
         Self::RowValue,
         Self::RowFiller,
         Self::UnusedRow,
@@ -73,47 +57,48 @@ impl Region {
         Self::Anywhere,
     ];
 
-    /// Some damage to this region of a book and its bytes; nothing if the book hasn't got it.
-    pub fn aim(self, random: &mut Random, book: &Book, bytes: &[u8]) -> Option<Damage> {
-        let at = match self {
-            Self::Length => return Some(length(random, bytes.len())),
-            Self::BlockCount => return Some(block_count(random, bytes.len() / BLOCK)),
-            Self::Block => return Some(block(random, bytes.len() / BLOCK)),
-            Self::Check => random.below(bytes.len() / BLOCK) * BLOCK + random.within(508..=511),
-            Self::Letters => random.within(0..=3),
-            Self::Columns => 4,
-            Self::Sheets => 5,
-            Self::Zeros => random.within(6..=7),
-            Self::Values => random.within(8..=23),
-            Self::HeadZeros => random.within(88..=507),
-            Self::Anywhere => random.below(bytes.len()),
-            Self::RowValue | Self::RowFiller | Self::UnusedRow => self.row_byte(random, book)?,
-            _ => self.entry_byte(random, book)?,
-        };
-        let old = bytes[at];
-        let value = if self == Self::RowValue {
-            row_value(random, old)
-        } else {
-            other_byte(random, old)
-        };
-        Some(Damage::Set { at, value })
+    /// Damages this region of a book that was written as `whole`; whether the book has it.
+    pub fn damage(
+        self,
+        random: &mut Random,
+        book: &Book,
+        whole: &[u8],
+        bytes: &mut Vec<u8>,
+    ) -> bool {
+        match self {
+            Self::Length => length(random, whole.len(), bytes),
+            Self::BlockCount => block_count(random, whole.len() / BLOCK, bytes),
+            Self::Block => block(random, whole.len() / BLOCK, bytes),
+            _ => {
+                let Some(at) = self.byte(random, book, whole.len()) else {
+                    return false;
+                };
+                let value = match self {
+                    Self::RowValue => row_value(random, whole[at]),
+                    _ => other_byte(random, whole[at]),
+                };
+                // Damage before this may have cut the byte off.
+                if let Some(byte) = bytes.get_mut(at) {
+                    *byte = value;
+                }
+            }
+        }
+        true
     }
 
-    fn entry_byte(self, random: &mut Random, book: &Book) -> Option<usize> {
+    /// Some byte of this region, if the book has it.
+    fn byte(self, random: &mut Random, book: &Book, length: usize) -> Option<usize> {
         let used = book.sheets.len();
-        if self == Self::UnusedEntry {
-            return (used < 8).then(|| random.within(24 + 8 * used..=87));
+        match self {
+            Self::Check => Some(random.below(length / BLOCK) * BLOCK + random.within(508..=511)),
+            Self::Head(first, last) => Some(one_of(random, first, last)),
+            Self::Entry(first, last) => {
+                (used > 0).then(|| 24 + one_of(random, first, last) + 8 * random.below(used))
+            }
+            Self::UnusedEntry => (used < 8).then(|| random.within(24 + 8 * used..=87)),
+            Self::RowValue | Self::RowFiller | Self::UnusedRow => self.row_byte(random, book),
+            _ => Some(random.below(length)),
         }
-        if used == 0 {
-            return None;
-        }
-        let byte = match self {
-            Self::Width => 0,
-            Self::ColumnNumbers => random.within(1..=4),
-            Self::EntryZero => 5,
-            _ => random.within(6..=7),
-        };
-        Some(24 + 8 * random.below(used) + byte)
     }
 
     /// A byte of some sheet's rows. In one case of four it is the last such byte of its sheet.
@@ -121,12 +106,12 @@ impl Region {
         let mut found = Vec::new();
         let mut first_block = 1;
         for sheet in &book.sheets {
-            let (rows, blocks) = (sheet.rows.len(), blocks_of(sheet));
-            let (width, slots) = (sheet.columns.len(), blocks * ROWS_OF_A_BLOCK);
+            let (rows, width) = (sheet.rows.len(), sheet.columns.len());
+            let blocks = rows.div_ceil(ROWS_OF_A_BLOCK);
             let (rows, bytes) = match self {
                 Self::RowValue => (0..rows, 0..width),
                 Self::RowFiller => (0..rows, width..4),
-                _ => (rows..slots, 0..4),
+                _ => (rows..blocks * ROWS_OF_A_BLOCK, 0..4),
             };
             if !rows.is_empty() && !bytes.is_empty() {
                 found.push((first_block, rows, bytes));
@@ -137,17 +122,20 @@ impl Region {
         let (row, byte) = if random.once_in(4) {
             (rows.end - 1, bytes.end - 1)
         } else {
-            (
-                rows.start + random.below(rows.len()),
-                bytes.start + random.below(bytes.len()),
-            )
+            let row = rows.start + random.below(rows.len());
+            (row, bytes.start + random.below(bytes.len()))
         };
         Some((block + row / ROWS_OF_A_BLOCK) * BLOCK + row % ROWS_OF_A_BLOCK * 4 + byte)
     }
 }
 
-fn blocks_of(sheet: &Sheet) -> usize {
-    sheet.rows.len().div_ceil(ROWS_OF_A_BLOCK)
+/// A number from the first to the last; without a draw where there is but one.
+fn one_of(random: &mut Random, first: usize, last: usize) -> usize {
+    if first == last {
+        first
+    } else {
+        random.within(first..=last)
+    }
 }
 
 /// Another byte: a near one, one bit of it turned, one near a limit, or any.
@@ -176,7 +164,8 @@ fn row_value(random: &mut Random, old: u8) -> u8 {
     }
 }
 
-fn length(random: &mut Random, old: usize) -> Damage {
+/// Cuts the book, or lengthens it with zeros.
+fn length(random: &mut Random, old: usize, bytes: &mut Vec<u8>) {
     let length = match random.below(4) {
         0 => random.below(old),
         1 => old + random.within(1..=2 * BLOCK),
@@ -184,36 +173,53 @@ fn length(random: &mut Random, old: usize) -> Damage {
         _ => random.within(0..=(LONGEST + 2) * BLOCK),
     };
     let length = if length == old { old + 1 } else { length };
-    Damage::Resize { length }
+    bytes.resize(length, 0);
 }
 
-fn block_count(random: &mut Random, blocks: usize) -> Damage {
+/// Takes a block out, doubles one, or cuts the book to so many.
+fn block_count(random: &mut Random, blocks: usize, bytes: &mut Vec<u8>) {
     let block = random.below(blocks);
     let other = random.within(1..=LONGEST);
     match random.below(4) {
-        0 if blocks != other => Damage::Resize {
-            length: other * BLOCK,
-        },
-        1 => Damage::Remove { block },
-        2 => Damage::Repeat { block },
-        _ => Damage::Remove { block: blocks - 1 },
+        0 if blocks != other => bytes.resize(other * BLOCK, 0),
+        2 => {
+            let copy = of_block(block, bytes).to_vec();
+            let at = (block * BLOCK).min(bytes.len());
+            bytes.splice(at..at, copy);
+        }
+        kind => {
+            let block = if kind == 1 { block } else { blocks - 1 };
+            let length = of_block(block, bytes).len();
+            let at = (block * BLOCK).min(bytes.len());
+            bytes.drain(at..at + length);
+        }
     }
 }
 
-fn block(random: &mut Random, blocks: usize) -> Damage {
+/// Fills a block, its check too, with one byte or with anything, or exchanges two.
+fn block(random: &mut Random, blocks: usize, bytes: &mut [u8]) {
     let block = random.below(blocks);
     let other = random.below(blocks);
     let seed = random.bits();
     match random.below(4) {
-        0 if block != other => Damage::Swap {
-            first: block,
-            second: other,
-        },
-        1 => Damage::Noise { block, seed },
-        2 => Damage::Fill {
-            block,
-            value: random.byte(),
-        },
-        _ => Damage::Fill { block, value: 0xFF },
+        0 if block != other => {
+            let copies = [block, other].map(|block| of_block(block, bytes).to_vec());
+            if copies.iter().all(|copy| copy.len() == BLOCK) {
+                of_block(block, bytes).copy_from_slice(&copies[1]);
+                of_block(other, bytes).copy_from_slice(&copies[0]);
+            }
+        }
+        1 => Random::new(seed).fill(of_block(block, bytes)),
+        2 => {
+            let value = random.byte();
+            of_block(block, bytes).fill(value);
+        }
+        _ => of_block(block, bytes).fill(0xFF),
     }
+}
+
+/// The bytes of a block; none if damage before this has cut into it.
+fn of_block(block: usize, bytes: &mut [u8]) -> &mut [u8] {
+    let block = bytes.chunks_exact_mut(BLOCK).nth(block);
+    block.unwrap_or_default()
 }

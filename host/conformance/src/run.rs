@@ -1,11 +1,11 @@
 //! One seeded input of a run: a book, a list of orders, and a space for the answers.
 
-use crate::orders::{any_list, narrow, FINISH};
-use crate::{any_book, books, plant, write, Book, Case, Order, Random};
+use crate::orders::{any_list, narrow, searches, FINISH};
+use crate::{any_book, books, plant, space_for, write, Book, Case, Order, Random};
 use std::ops::RangeInclusive;
 
 /// What kind of book a run has.
-#[derive(Clone, Copy, Debug, PartialEq, Eq)]
+#[derive(Clone, Copy, Debug, PartialEq, Eq, PartialOrd, Ord)]
 pub enum Shape {
     /// Up to three columns of up to four values, up to three sheets of up to eight rows.
     Tiny,
@@ -21,24 +21,6 @@ pub enum Shape {
     Largest,
     /// Most often no book at all.
     Damaged,
-}
-
-impl Shape {
-    /// All of them.
-    pub const ALL: [Self; 7] = [
-        Self::Tiny,
-        Self::Small,
-        Self::Ring,
-        Self::Differing,
-        Self::Any,
-        Self::Largest,
-        Self::Damaged,
-    ];
-}
-
-/// The bytes that the answers to these orders need, whole orders or not.
-pub fn space_for(orders: &[u8]) -> usize {
-    72 * (orders.len() / 8 + 1)
 }
 
 /// One seeded input of a run.
@@ -124,9 +106,8 @@ fn list_bytes(random: &mut Random, list: &[Order]) -> Vec<u8> {
 /// A search through one of the largest books may take minutes and more, so it is finished, if at
 /// all, when few columns are left open.
 fn finish_late(random: &mut Random, list: &mut Vec<Order>, aim: &[u8]) {
-    for order in list.iter_mut().filter(|order| **order == FINISH) {
-        *order = narrow(0, u32::MAX);
-    }
+    let finishes = list.iter_mut().filter(|order| searches(order));
+    finishes.for_each(|order| *order = narrow(0, u32::MAX));
     if random.once_in(3) {
         let open = random.within(0..=5);
         let mut columns: Vec<u8> = (0..16).collect();

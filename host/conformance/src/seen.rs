@@ -48,11 +48,6 @@ impl Seen {
     pub fn is_dead(&self) -> bool {
         self.status == 0
     }
-
-    /// How many values the domains have together.
-    pub fn values(&self) -> usize {
-        values(&self.domains)
-    }
 }
 
 /// How many values these domains have together.

@@ -1,8 +1,8 @@
 //! The edges of the orders, each with what it must give, and whole ranges of them.
 
 use conformance::{
-    agreed_run, all_values, back, harbour, narrow, plant, regular, space_for, write, Book, Order,
-    Random, Seen, Sheet, FINISH, MARK,
+    agreed_run, all_values, back, harbour, kit, narrow, plant, regular, space_for, write, Book,
+    Order, Random, Seen, Sheet, FINISH, MARK, MOTOR, WIDTH,
 };
 
 /// What the last answer shows: its refusal, the depth and the domains.
@@ -34,31 +34,36 @@ fn harbour_after(orders: &[Order]) -> Shows {
     after(&write(&harbour()), &orders.concat())
 }
 
-const WIDTH: u8 = 0;
-const MOTOR: u8 = 1;
-
+/// "a dead session gives the same refusals as an open one, and its finish says none"
 #[test]
 fn every_kind_and_every_argument() {
-    for kind in 0..=255 {
-        for argument in 0..=255 {
-            let order = [kind, argument, 0, 0, 0, 0, 0, 0];
-            let expected = match (kind, argument) {
-                (1, 0..=2) => shows(0, 1, &[]),
-                (1, _) => shows(21, 1, &[7, 3, 3]),
-                (2, 0) => shows(0, 2, &[7, 3, 3]),
-                (3, 1) => shows(0, 0, &[7, 3, 3]),
-                (3, _) => shows(24, 1, &[7, 3, 3]),
-                (4, 0) => shows(0, 1, &[1, 1, 1]),
-                (2 | 4, _) => shows(25, 1, &[7, 3, 3]),
-                _ => shows(20, 1, &[7, 3, 3]),
-            };
-            assert_eq!(harbour_after(&[MARK, order]), expected);
+    let dead = [MARK, narrow(WIDTH, 0)];
+    for (before, here, found) in [
+        (&dead[..1], &[7, 3, 3][..], &[1, 1, 1][..]),
+        (&dead, &[], &[]),
+    ] {
+        for kind in 0..=255 {
+            for argument in 0..=255 {
+                let order = [kind, argument, 0, 0, 0, 0, 0, 0];
+                let expected = match (kind, argument) {
+                    (1, 0..=2) => shows(0, 1, &[]),
+                    (1, _) => shows(21, 1, here),
+                    (2, 0) => shows(0, 2, here),
+                    (3, 1) => shows(0, 0, &[7, 3, 3]),
+                    (3, _) => shows(24, 1, here),
+                    (4, 0) => shows(0, 1, found),
+                    (2 | 4, _) => shows(25, 1, here),
+                    _ => shows(20, 1, here),
+                };
+                assert_eq!(harbour_after(&[before, &[order]].concat()), expected);
+            }
         }
     }
+    assert_eq!(harbour_after(&[narrow(255, !0)]), shows(21, 0, &[7, 3, 3]));
 }
 
 /// Every byte that must be zero, with every value, in an order that has no other fault and in one
-/// that has.
+/// that has: the answer shows the unchanged state.
 #[test]
 fn every_byte_that_must_be_zero() {
     let zeros = [
@@ -74,8 +79,7 @@ fn every_byte_that_must_be_zero() {
             for value in 1..=255 {
                 let mut order = right;
                 order[byte] = value;
-                let after = harbour_after(&[MARK, order]);
-                assert_eq!(after, shows(25, 1, &[7, 3, 3]));
+                assert_eq!(harbour_after(&[MARK, order]), shows(25, 1, &[7, 3, 3]));
             }
         }
     }
@@ -87,26 +91,19 @@ fn every_byte_that_must_be_zero() {
 #[test]
 fn every_number_of_values_and_every_bit_of_a_mask() {
     for count in 1..=32 {
-        let book = write(&Book {
-            counts: vec![count; 2],
-            sheets: vec![],
-        });
+        let book = write(&regular(2, count, 0, 0, 1));
         let all = all_values(count);
         assert_eq!(after(&book, &[]), shows(0, 0, &[all, all]));
         for bit in 0..32 {
             let mask = 1 << bit;
-            let expected = if bit < count {
-                shows(0, 0, &[all, mask])
-            } else {
-                shows(22, 0, &[all, all])
-            };
-            assert_eq!(after(&book, &narrow(1, mask)), expected);
-            let expected = if bit < count {
-                shows(0, 0, &[all, all])
-            } else {
-                shows(22, 0, &[all, all])
-            };
-            assert_eq!(after(&book, &narrow(1, mask | all)), expected);
+            for (mask, left) in [(mask, mask), (mask | all, all)] {
+                let expected = if bit < count {
+                    shows(0, 0, &[all, left])
+                } else {
+                    shows(22, 0, &[all, all])
+                };
+                assert_eq!(after(&book, &narrow(1, mask)), expected);
+            }
         }
     }
 }
@@ -114,10 +111,7 @@ fn every_number_of_values_and_every_bit_of_a_mask() {
 #[test]
 fn every_back_at_every_depth() {
     // Before each mark one more value of the only column goes.
-    let book = write(&Book {
-        counts: vec![32],
-        sheets: vec![],
-    });
+    let book = write(&regular(1, 32, 0, 0, 1));
     let mut orders = Vec::new();
     for depth in 0..=16 {
         let here = u32::MAX << depth;
@@ -134,13 +128,28 @@ fn every_back_at_every_depth() {
         orders.extend(narrow(0, u32::MAX << (depth + 1)));
     }
     assert_eq!(agreed(&book, &orders).depth, 16, "the narrow after mark 17");
-    let marks = &[MARK; 17].concat();
-    assert_eq!(after(&book, marks), shows(23, 16, &[!0]));
+    // "mark 16 is accepted, mark 17 refused"; after a back there is room for one more.
+    for (count, refusal, depth) in [
+        (16, 0, 16),
+        (17, 23, 16),
+        (18, 0, 15),
+        (19, 0, 16),
+        (20, 23, 16),
+    ] {
+        let mut marks = [MARK; 20];
+        marks[17] = back(16);
+        let shown = after(&book, &marks[..count].concat());
+        assert_eq!(shown, shows(refusal, depth, &[!0]), "{count} orders");
+    }
 }
 
-/// Mask 0 at every depth, and back to each of the marks before and after it.
+/// Mask 0 at every depth, and back to each of the marks before and after it. A sheet without rows is dead
+/// whatever stands beside it, and stays so.
 #[test]
 fn the_dead_come_back() {
+    let no_rows = kit::read_contents("values 2 2\nsheet 0\nrow 1\nsheet 0 1");
+    let orders = [MARK, FINISH, back(1)].concat();
+    assert_eq!(after(&write(&no_rows), &orders), shows(0, 0, &[]));
     for dead_at in 0..=4 {
         let mut orders = vec![MARK; 4];
         orders.insert(dead_at, narrow(MOTOR, 0));
@@ -168,7 +177,8 @@ fn every_row_of_a_sheet_alone() {
             .map(|r| vec![(r / 16) as u8, (r % 16) as u8])
             .collect(),
     };
-    for n in [1, 63, 64, 65, 127, 128, 129, 254, 255, 381, 382, 507, 508] {
+    // Both sides of each word of 64 rows, and of each block of 127.
+    for n in (1..=508).filter(|n| (n + 1) % 64 < 3 || (n + 1) % 127 < 3) {
         let counts = vec![32, 16];
         let sheets = vec![sheet(n)];
         let book = write(&Book { counts, sheets });

@@ -7,32 +7,16 @@ use conformance::{
 
 const SEEDED: u64 = 300;
 
-/// What it prints for the example of document 01.
-const EXAMPLE_LINES: &str = "0 0 1 0 0 0 7 3 3\n\
-                             1 0 1 1 0 0 7 3 3\n\
-                             2 0 1 1 3 0 3 1 1\n\
-                             3 0 1 1 3 1 1 1 1\n\
-                             4 0 1 0 0 0 7 3 3\n\
-                             5 24 1 0 0 0 7 3 3\n\
-                             6 0 2 0 3 0 4 2 2\n\
-                             accepted 5\n";
-
-#[test]
-fn the_example_prints_its_lines() {
-    let folder = Folder::new("example");
-    let printed = folder.agrees(&write(&harbour()), &example_orders().concat());
-    assert_eq!(printed, EXAMPLE_LINES);
-}
-
 /// Orders that come byte by byte are the same orders.
 #[test]
 fn orders_in_pieces() {
     let folder = Folder::new("pieces");
     let book = write(&harbour());
     let example = example_orders().concat();
+    let expected = folder.agrees(&book, &example);
     for size in [1, 3, 8, 47] {
         let pieces: Vec<&[u8]> = example.chunks(size).collect();
-        assert_eq!(folder.prints(Some(&book), &pieces), EXAMPLE_LINES);
+        assert_eq!(folder.prints(Some(&book), &pieces), expected);
     }
 }
 

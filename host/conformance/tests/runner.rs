@@ -20,15 +20,11 @@ fn lines(output: &Output) -> Vec<&str> {
     text.lines().collect()
 }
 
-fn path(path: &Path) -> &str {
-    path.to_str().expect("a plain path")
-}
-
 #[test]
 fn the_program_agrees_with_each() {
     let program = program();
     let output = tried(program.parent().expect("its folder"), &["./fit"]);
-    let agreed = format!("{} agreed, 0 differ", kit::read_index().len());
+    let agreed = format!("{} agreed, 0 differ", kit::vectors().len());
     assert_eq!(lines(&output), [&*agreed]);
     assert_eq!(output.status.code(), Some(0));
     assert!(output.stderr.is_empty());
@@ -36,7 +32,7 @@ fn the_program_agrees_with_each() {
 
 #[test]
 fn a_program_that_prints_no_lines_differs_on_each() {
-    let count = kit::read_index().len();
+    let count = kit::vectors().len();
     let output = tried(&kit::folder(), &["echo"]);
     assert_eq!(lines(&output).len(), count + 1);
     assert_eq!(lines(&output)[count], format!("0 agreed, {count} differ"));
@@ -48,21 +44,21 @@ fn a_program_that_prints_no_lines_differs_on_each() {
 fn each_difference_has_its_line() {
     let script = "\"$1\" | sed 's/^accepted 5$/accepted 4/'";
     let program = program().canonicalize().expect("the program");
-    let output = tried(&kit::folder(), &["sh", "-c", script, "sh", path(&program)]);
-    let index = kit::read_index();
-    let wrong = index
+    let program = program.to_str().expect("a plain path");
+    let output = tried(&kit::folder(), &["sh", "-c", script, "sh", program]);
+    let vectors = kit::vectors();
+    let wrong: Vec<_> = vectors
         .iter()
-        .filter(|line| line.lines.ends_with("\naccepted 5\n"));
-    let wrong: Vec<_> = wrong
-        .map(|line| format!("{} differs: ", line.name))
+        .filter(|it| reference::printed(&it.book, &it.orders).ends_with("\naccepted 5\n"))
         .collect();
     let lines = lines(&output);
     let (last, differences) = lines.split_last().expect("a last line");
     assert_eq!(differences.len(), wrong.len());
-    for (line, start) in differences.iter().zip(&wrong) {
-        assert!(line.starts_with(start), "{line}");
+    for (line, vector) in differences.iter().zip(&wrong) {
+        let start = format!("{} differs: ", vector.name);
+        assert!(line.starts_with(&start), "{line}");
     }
-    let agreed = index.len() - wrong.len();
+    let agreed = vectors.len() - wrong.len();
     assert_eq!(*last, format!("{agreed} agreed, {} differ", wrong.len()));
     assert_eq!(output.status.code(), Some(1));
 }

@@ -2,59 +2,17 @@
 //!
 //! `FITTING_CASES` asks for more of them than the usual number.
 
-use conformance::{agreed, Book, Case, Mend, Outcomes, Places, Sheet, Story};
-use std::env;
-use std::io::Write;
+use conformance::{agreed, asked, refused, show, spelled};
+use conformance::{Book, Case, Mend, Region, Sheet, Tally};
+use reference::book_refusals;
 use std::panic;
 
-const FEWEST_CASES: u64 = 200_000;
-
-fn cases() -> u64 {
-    let asked = env::var("FITTING_CASES").ok();
-    let asked = asked.map(|number| number.parse().expect("FITTING_CASES is a number"));
-    asked.unwrap_or(FEWEST_CASES).max(FEWEST_CASES)
-}
-
-/// Straight to standard error, so that it is seen when the test passes too.
-fn show(text: &str) {
-    let _ = writeln!(std::io::stderr().lock(), "\n{text}");
-}
-
-/// The agreed answer; a difference is told with the seed and the story.
+/// The agreed answer; a difference is told with the seed and the damage.
 fn answer(seed: u64, case: &Case) -> u64 {
     panic::catch_unwind(|| agreed(&case.bytes)).unwrap_or_else(|cause| {
-        show(&format!("seed {seed}: {:?}", case.story));
+        show(&format!("seed {seed}: {:?}, {:?}", case.damaged, case.mend));
         panic::resume_unwind(cause)
     })
-}
-
-#[test]
-fn every_number_agrees() {
-    let mut places = Places::new();
-    let mut outcomes = Outcomes::new();
-    for seed in 0..cases() {
-        let case = Case::new(seed);
-        let number = answer(seed, &case);
-        places.add(number);
-        match &case.story {
-            Story::Valid => assert!(number < 65_536, "seed {seed} is a valid book"),
-            Story::Damaged { hits, mend } if hits.len() == 1 => {
-                outcomes.add(hits[0].region, *mend == Mend::AtTheEnd, number);
-            }
-            _ => {}
-        }
-    }
-    show(&format!(
-        "{} seeded inputs, library and reference agree on each\n\n{places}\n{outcomes}",
-        cases()
-    ));
-    assert_eq!(places.missing(), [], "every place is reached");
-    assert_eq!(places.strays(), 0, "and no other");
-    assert_eq!(
-        outcomes.missing(),
-        [],
-        "every region is damaged, with and without mended checks"
-    );
 }
 
 /// The view of an accepted book as plain data.
@@ -70,26 +28,58 @@ fn read(book: fitting::Book) -> Book {
     }
 }
 
+/// The typed check of `fitting` gives this number, and reads an accepted book as the reference does.
+fn typed_alike(seed: u64, bytes: &[u8], number: u64) {
+    match fitting::check(bytes) {
+        Ok(book) => assert_eq!(Some(read(book)), reference::decode(bytes), "seed {seed}"),
+        Err(refusal) => {
+            let given = refused(refusal.number(), refusal.place().into());
+            assert_eq!(given, number, "seed {seed}");
+        }
+    }
+}
+
+/// Damage to one region alone, in words.
+fn damage(region: Region, mended: bool) -> String {
+    let mended = if mended { "mended" } else { "not mended" };
+    format!("damage to {region:?}, checks {mended}")
+}
+
+/// Each place that a refusal can give is reached, and no other; and each region is hit alone, with
+/// and without mended checks.
 #[test]
-fn every_book_is_read_alike() {
-    let (mut accepted, mut refused) = (0, 0);
-    for seed in 0..cases() / 4 {
-        let bytes = Case::new(seed).bytes;
-        match fitting::check(&bytes) {
-            Ok(book) => {
-                assert_eq!(Some(read(book)), reference::decode(&bytes), "seed {seed}");
-                accepted += 1;
-            }
-            Err(refusal) => {
-                let number = refusal.number() * 65_536 + u64::from(refusal.place());
-                assert_eq!(number, reference::check(&bytes), "seed {seed}");
-                assert!((1..=5).contains(&refusal.number()), "seed {seed}");
-                refused += 1;
-            }
+fn every_number_agrees() {
+    let [mut places, mut tally] = [Tally::default(), Tally::default()];
+    for (refusal, possible) in book_refusals() {
+        for place in possible {
+            places.add(&spelled(refused(refusal, place)), 0);
+        }
+    }
+    let possible = places.kinds();
+    for region in Region::ALL {
+        tally.add(&damage(region, true), 0);
+        tally.add(&damage(region, false), 0);
+    }
+    let cases = asked("FITTING_CASES", 200_000);
+    for seed in 0..cases {
+        let case = Case::new(seed);
+        let number = answer(seed, &case);
+        typed_alike(seed, &case.bytes, number);
+        let refusal = number / 65_536;
+        if refusal > 0 {
+            places.add(&spelled(number), 1);
+        }
+        tally.add(&format!("refusal {refusal}"), 1);
+        match case.damaged.as_deref() {
+            Some([]) => assert_eq!(refusal, 0, "seed {seed} is a right book"),
+            Some([region]) => tally.add(&damage(*region, case.mend == Mend::AtTheEnd), 1),
+            _ => {}
         }
     }
     show(&format!(
-        "{accepted} accepted books and {refused} refusals read alike by library and reference"
+        "{cases} seeded inputs, library and reference agree on each\n\n{tally}"
     ));
-    assert!(accepted > 1_000 && refused > 1_000);
+    tally.assert_each_above(0);
+    places.assert_each_above(0);
+    assert_eq!(places.kinds(), possible, "a place that can't be");
 }

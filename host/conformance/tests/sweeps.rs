@@ -1,8 +1,8 @@
 //! Whole ranges of inputs, none left out.
 
 use conformance::{
-    agreed, any_book, harbour, mend, refused, regular, tiny, write, Book, Random, Sheet, BLOCK,
-    LONGEST, ROWS_OF_A_BLOCK,
+    agreed, any_book, harbour, mend, mend_block, refused, regular, tiny, write, Book, Random,
+    Sheet, BLOCK, LONGEST, ROWS_OF_A_BLOCK,
 };
 
 /// A book of 33 blocks whose sheets have the widths 1, 2, 3 and 4, and columns of different V.
@@ -29,15 +29,6 @@ fn needing(blocks: usize) -> Book {
         left -= taken;
     }
     book
-}
-
-/// Makes the check of one block right again.
-fn mend_block(bytes: &mut [u8], block: usize) {
-    // The check has b + 1 in it, so the block is mended alone as block 0, and b added.
-    let part = &mut bytes[block * BLOCK..][..BLOCK];
-    mend(part);
-    let check = u32::from_le_bytes([part[508], part[509], part[510], part[511]]);
-    part[508..].copy_from_slice(&check.wrapping_add(block as u32).to_le_bytes());
 }
 
 /// The agreed number with one byte changed and its block mended; the bytes are as before after it.
@@ -67,6 +58,7 @@ fn every_length_to_35_blocks() {
         };
         assert_eq!(agreed(&bytes[..length]), expected, "length {length}");
     }
+    assert_eq!(agreed(&vec![0; 1 << 20]), refused(1, 0));
 }
 
 #[test]
@@ -181,18 +173,26 @@ fn every_byte_of_unused_rows() {
     }
 }
 
+/// In a head alone, and with the rows that it names where there may be so many.
 #[test]
 fn every_row_count_of_a_sheet() {
     for n in 0..=u16::MAX {
         let mut bytes = write(&regular(1, 1, 1, 0, 1));
         bytes[30..32].copy_from_slice(&n.to_le_bytes());
         mend(&mut bytes);
+        let blocks = 1 + usize::from(n).div_ceil(ROWS_OF_A_BLOCK);
         let expected = match n {
             0 => 16 + 1,
-            1..=508 => refused(4, 1 + usize::from(n).div_ceil(ROWS_OF_A_BLOCK)),
+            1..=508 => refused(4, blocks),
             _ => refused(3, 30),
         };
         assert_eq!(agreed(&bytes), expected, "{n} rows");
+        if n <= 4_000 {
+            let bytes = write(&regular(1, 2, 1, n.into(), 1));
+            assert_eq!(bytes.len(), blocks * BLOCK, "{n} rows");
+            let expected = if n <= 508 { 16 + 1 } else { refused(3, 30) };
+            assert_eq!(agreed(&bytes), expected, "{n} rows");
+        }
     }
 }
 

@@ -1,10 +1,8 @@
 //! The typed run of `fitting` says what the bytes say.
 
-use conformance::{space_for, spelled, Run, Seen};
-use fitting::{Answer, Answers, Book, Order, OrderList, OrderRefusal, Outcome, Refusal};
-use fitting::{Space, Status, Values};
-
-const RUNS: u64 = 5_000;
+use conformance::{space_for, Run, Seen, Tally};
+use fitting::{Answer, Answers, Book, OrderList, Outcome, Refusal, Space, Status, Values};
+use std::panic;
 
 /// The answer once more, from what the view gives.
 fn seen(answer: Answer) -> Seen {
@@ -61,84 +59,53 @@ fn read_alike(answers: Answers, book: Book, expected: &[Seen]) {
     }
 }
 
-/// The typed run of these bytes, by both ways, and the independent version's.
-fn agree(run: &Run, list: &OrderList) -> Result<(), Refusal> {
+/// The typed run of these bytes, by both ways, against the independent version's; what came of it, in
+/// words.
+fn tried(run: &Run) -> &'static str {
     let mut expected = vec![0; run.space];
-    let number = reference::run(&run.book, list.as_bytes(), &mut expected);
+    let number = reference::run(&run.book, &run.orders, &mut expected);
+    let book = fitting::check(&run.book);
+    let Ok(list) = OrderList::from_bytes(&run.orders) else {
+        // The library refuses such a list too, if it doesn't refuse the book before it.
+        let refusal = book.err().unwrap_or(Refusal::Orders);
+        assert_eq!(Refusal::from_number(number), Some(refusal));
+        return "refused by their length";
+    };
+    assert_eq!(list.as_bytes(), run.orders);
+    assert_eq!(OrderList::of(&list), Ok(list.clone()));
     let mut bytes = vec![0; run.space];
-    let typed = fitting::run(&run.book, list, &mut bytes);
+    let typed = fitting::run(&run.book, &list, &mut bytes);
     match typed {
         Ok(answers) => assert_eq!(answers.accepted() as u64, number),
         Err(refusal) => {
-            assert_eq!(
-                Refusal::from_number(number),
-                Some(refusal),
-                "{}",
-                spelled(number)
-            );
+            assert_eq!(Refusal::from_number(number), Some(refusal));
             assert!(!matches!(refusal, Refusal::Other { .. }));
         }
     }
     // A right book has its answers whatever the space was, where it comes with a long enough one.
-    if let Ok(book) = fitting::check(&run.book) {
+    if let Ok(book) = book {
         let mut space = Space::new();
-        let answers = book.run(list, &mut space);
-        expected.resize(space_for(list.as_bytes()), 0);
-        reference::run(&run.book, list.as_bytes(), &mut expected);
+        let answers = book.run(&list, &mut space);
+        expected.resize(space_for(&run.orders), 0);
+        reference::run(&run.book, &run.orders, &mut expected);
         read_alike(answers, book, &Seen::read_all(&expected));
-        typed.map(|typed| assert_eq!(typed, answers))
-    } else {
-        typed.map(|_| panic!("a run over no book"))
+        assert!(typed.is_err() || typed == Ok(answers));
+    }
+    match typed {
+        Ok(_) => "accepted",
+        Err(_) => "refused",
     }
 }
 
 #[test]
 fn seeded_runs_read_alike() {
-    let (mut accepted, mut refused, mut lengths) = (0, 0, 0);
-    for seed in 0..RUNS {
+    let mut tally = Tally::default();
+    for seed in 0..5_000 {
         let run = Run::new(seed);
-        let Ok(list) = OrderList::from_bytes(&run.orders) else {
-            // The library refuses such a list too, if it doesn't refuse the book before it.
-            let mut space = vec![0; run.space];
-            let number = fitting::run_number(&run.book, &run.orders, &mut space);
-            let refusal = fitting::check(&run.book).err().unwrap_or(Refusal::Orders);
-            assert_eq!(Refusal::from_number(number), Some(refusal), "seed {seed}");
-            lengths += 1;
-            continue;
-        };
-        assert_eq!(list.as_bytes(), run.orders, "seed {seed}");
-        assert_eq!(OrderList::of(&list), Ok(list.clone()), "seed {seed}");
-        match agree(&run, &list) {
-            Ok(()) => accepted += 1,
-            Err(_) => refused += 1,
-        }
+        let words = panic::catch_unwind(|| tried(&run));
+        tally.add(words.unwrap_or_else(|_| panic!("seed {seed}")), 1);
     }
-    let counts = format!("{accepted} accepted, {refused} refused, {lengths} by their length");
-    assert!(
-        accepted > 1_000 && refused > 400 && lengths > 100,
-        "{counts}"
-    );
-}
-
-/// Each refusal of an order has its name.
-#[test]
-fn refusals_of_orders() -> Result<(), Refusal> {
-    let bytes = conformance::write(&conformance::harbour());
-    let mut list = OrderList::of([Order::Mark; 17])?;
-    list.push(Order::Raw([5, 0, 0, 0, 0, 0, 0, 0]))?;
-    list.narrow(3, Values::NONE)?
-        .narrow(0, Values::from_mask(8))?;
-    list.back(17)?.push(Order::Raw([4, 0, 0, 0, 0, 0, 0, 1]))?;
-    let mut space = Space::new();
-    let answers = fitting::check(&bytes)?.run(&list, &mut space);
-    let expected = [
-        (17, OrderRefusal::Depth),
-        (18, OrderRefusal::Kind),
-        (19, OrderRefusal::Column),
-        (20, OrderRefusal::Mask),
-        (21, OrderRefusal::Mark),
-        (22, OrderRefusal::Zero),
-    ];
-    assert!(answers.refused().eq(expected));
-    Ok(())
+    println!("{tally}");
+    assert_eq!(tally.kinds(), 3);
+    tally.assert_each_above(100);
 }

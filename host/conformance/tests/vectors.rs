@@ -1,20 +1,18 @@
 //! The conformance kit: its files are what the reference makes, and the library and the program
-//! agree with each.
+//! agree with each vector.
 
-use conformance::kit::{self, Line};
+use conformance::kit::{self, contents, read_contents, Files};
+use conformance::wrong::{WrongEngine, FAULTS};
 use conformance::{write, Folder};
-use std::collections::{BTreeMap, BTreeSet};
+use std::collections::BTreeSet;
 use std::fs;
 use std::path::Path;
 
-/// Every file of the kit by its path.
-fn on_disk() -> BTreeMap<String, Vec<u8>> {
-    let mut found = BTreeMap::new();
-    gather(&kit::folder(), "", &mut found);
-    found
-}
+/// The files of the kit that no `--bin vectors` writes.
+const OTHERS: [&str; 4] = [".gitattributes", "README.md", "try", FAULTS];
 
-fn gather(folder: &Path, prefix: &str, found: &mut BTreeMap<String, Vec<u8>>) {
+/// Adds every file of this folder by its path.
+fn gather(folder: &Path, prefix: &str, found: &mut Files) {
     for entry in fs::read_dir(folder).expect("the folder of the kit") {
         let entry = entry.expect("a file");
         let name = entry.file_name().into_string().expect("a plain name");
@@ -27,116 +25,122 @@ fn gather(folder: &Path, prefix: &str, found: &mut BTreeMap<String, Vec<u8>>) {
     }
 }
 
-/// No file differs from what `--bin vectors` would write, none is missing, none is too many.
+/// No file differs from what `--bin vectors` would write, none is missing, none is too many; and
+/// the kit is small enough to be sent about.
 #[test]
 fn the_files_are_what_the_reference_makes() {
     let again = "write the kit anew: cargo run --release --offline -p conformance --bin vectors";
-    let mut found = on_disk();
-    for name in kit::HAND_WRITTEN {
+    let mut found = Files::new();
+    gather(&kit::folder(), "", &mut found);
+    let bytes: usize = found.values().map(Vec::len).sum();
+    assert!(bytes < 768 * 1024, "{bytes} bytes");
+    for name in OTHERS {
         assert!(found.remove(name).is_some(), "{name} is missing");
     }
-    for file in kit::files() {
-        match found.remove(&file.path) {
-            None => panic!("{} is missing; {again}", file.path),
-            Some(bytes) => assert!(bytes == file.bytes, "{} differs; {again}", file.path),
-        }
+    for (path, bytes) in kit::files() {
+        let on_disk = found.remove(&path);
+        assert!(on_disk == Some(bytes), "{path} differs; {again}");
     }
     assert!(found.is_empty(), "too many: {:?}; {again}", found.keys());
 }
 
-/// Small enough to be sent about.
-#[test]
-fn the_kit_is_small() {
-    let bytes: usize = on_disk().values().map(Vec::len).sum();
-    assert!(bytes < 768 * 1024, "{bytes} bytes");
+/// A text of the kit, read as anybody would read it.
+fn read(path: &str) -> String {
+    fs::read_to_string(kit::folder().join(path)).expect(path)
 }
 
+/// Nine fields and none empty, since a shell's read takes two tabs for one; every name is plain and
+/// used once.
 #[test]
-fn every_name_is_plain_and_used_once() {
-    let index = kit::read_index();
-    let names: BTreeSet<&str> = index.iter().map(|line| &*line.name).collect();
-    assert_eq!(names.len(), index.len());
-    for name in names {
+fn every_line_of_the_index() {
+    let mut names = BTreeSet::new();
+    let index = read("index.tsv");
+    for line in index.lines().skip(1) {
+        let fields: Vec<&str> = line.split('\t').collect();
+        assert!(fields.len() == 9 && !fields.contains(&""), "{line}");
+        assert!(fields[7].ends_with('.') && !line.contains("  "), "{line}");
         let plain = |c: char| c.is_ascii_lowercase() || c.is_ascii_digit() || c == '-';
-        assert!(name.chars().all(plain), "{name}");
+        assert!(fields[0].chars().all(plain), "{line}");
+        assert!(names.insert(fields[0]), "twice: {line}");
     }
+    assert_eq!(names.len(), kit::vectors().len());
 }
 
-/// Each book and each list stands there once, and is used.
+/// The library gives the numbers and the space, the program prints the lines, and the book of an
+/// accepted vector follows from its contents.
 #[test]
-fn books_and_lists_stand_once() {
-    let index = kit::read_index();
-    let files = on_disk();
-    let in_folder = |folder| {
-        files
-            .iter()
-            .filter(move |(path, _)| path.starts_with(folder))
-    };
-    for (folder, used) in [
-        ("books/", index.iter().map(|line| &line.book).collect()),
-        ("orders/", index.iter().map(|line| &line.orders).collect()),
-    ] {
-        let used: BTreeSet<&Vec<u8>> = used;
-        let there: BTreeSet<&Vec<u8>> = in_folder(folder).map(|(_, bytes)| bytes).collect();
-        assert_eq!(
-            there.len(),
-            in_folder(folder).count(),
-            "{folder} has one twice"
-        );
-        assert!(there == used, "{folder} has one that no vector uses");
-    }
-}
-
-/// What the library gives is what the files say, read as anybody would read them.
-#[test]
-fn the_library_agrees_with_each() {
-    for line in kit::read_index() {
-        let Line {
-            name, check, run, ..
-        } = &line;
-        let (book, orders) = (line.book.clone(), line.orders.clone());
-        let mut answers = vec![line.fill; line.space];
-        assert_eq!(fitting::check_number(&book), *check, "{name}");
-        assert_eq!(
-            fitting::run_number(&book, &orders, &mut answers),
-            *run,
-            "{name}"
-        );
-        assert!(answers == line.answers, "{name}: the space");
-        assert!(book == line.book, "{name}: the book was changed");
-        assert!(orders == line.orders, "{name}: the orders were changed");
-    }
-}
-
-#[test]
-fn the_program_prints_each() {
+fn the_library_and_the_program_agree_with_each() {
     let folder = Folder::new("kit");
-    for line in kit::read_index() {
-        let printed = folder.prints(Some(&line.book), &[&line.orders]);
-        assert_eq!(printed, line.lines, "{}", line.name);
-    }
-}
-
-/// The contents of each accepted book are there, and the book follows from them.
-#[test]
-fn contents_make_the_books() {
-    let files = on_disk();
-    let books = files.iter().filter_map(|(path, bytes)| {
-        let name = path.strip_prefix("books/")?.strip_suffix(".bin")?;
-        Some((name, bytes))
-    });
-    for (name, book) in books {
-        let lines = files.get(&format!("contents/{name}.txt"));
-        assert_eq!(
-            lines.is_some(),
-            fitting::check_number(book) < 65_536,
-            "{name}"
-        );
-        if let Some(lines) = lines {
-            let lines = std::str::from_utf8(lines).expect("text");
-            assert!(write(&kit::read_contents(lines)) == *book, "{name}");
+    for vector in kit::vectors() {
+        let mut space = vec![vector.fill; vector.space()];
+        let run = fitting::run_number(&vector.book, &vector.orders, &mut space);
+        assert!((run, space) == vector.expected(), "{}", vector.name);
+        conformance::agreed(&vector.book);
+        folder.agrees(&vector.book, &vector.orders);
+        if let Some(said) = reference::decode(&vector.book) {
+            let again = read_contents(&contents(&said));
+            assert!(write(&again) == vector.book, "{}", vector.name);
         }
     }
-    let harbour = include_bytes!("../../../books/harbour.bin");
-    assert_eq!(files["books/harbour.bin"], harbour);
+}
+
+/// What the papers' own examples print, by hand: K1 to K10 and the run of document 01, what stays after a
+/// finish, and document 002's walk-through. There every domain becomes {1, 2, 3, 4}, which is mask 30: 8 of
+/// 15 tuples are left, and none has 3 for x0; then x1 loses 1 and 2, 4 tuples are left, and x2 loses 3 and 4.
+#[rustfmt::skip]
+const EXAMPLES: [(&str, &[&str]); 13] = [
+    ("k1-opening", &["0 0 1 0 0 0 7 3 3", "accepted 0"]),
+    ("k2-width-4", &["0 0 1 0 0 0 7 3 3", "1 0 2 0 3 0 4 2 2", "accepted 1"]),
+    ("k3-board-1", &["0 0 1 0 0 0 7 3 3", "1 0 1 0 3 0 3 1 1", "accepted 1"]),
+    ("k4-then-motor-2", &["0 0 1 0 0 0 7 3 3", "1 0 1 0 3 0 3 1 1", "2 0 0 0 0 0 0 0 0", "accepted 2"]),
+    ("k5-width-2", &["0 0 1 0 0 0 7 3 3", "1 0 1 0 1 0 2 3 3", "accepted 1"]),
+    ("k6-finish", &["0 0 1 0 0 0 7 3 3", "1 0 1 0 0 1 1 1 1", "accepted 1"]),
+    ("k7-three-that-differ", &["0 0 1 0 0 0 3 3 3", "1 0 1 0 0 2 0 0 0", "accepted 1"]),
+    ("k8-sheet-without-rows", &["0 0 0 0 0 0 0", "1 0 0 0 0 2 0", "accepted 1"]),
+    ("k9-no-sheets", &["0 0 1 0 0 0 1 3 2147483647 4294967295", "1 0 1 0 0 1 1 1 1 1", "accepted 1"]),
+    ("k10-width-8", &["0 0 1 0 0 0 7 3 3", "1 22 1 0 0 0 7 3 3", "accepted 0"]),
+    ("paper-run", &[
+        "0 0 1 0 0 0 7 3 3", "1 0 1 1 0 0 7 3 3", "2 0 1 1 3 0 3 1 1", "3 0 1 1 3 1 1 1 1",
+        "4 0 1 0 0 0 7 3 3", "5 24 1 0 0 0 7 3 3", "6 0 2 0 3 0 4 2 2", "accepted 5",
+    ]),
+    ("finish-leaves-the-state", &[
+        "0 0 1 0 0 0 7 3 3", "1 0 1 0 0 1 1 1 1", "2 0 1 0 0 0 6 3 3", "3 0 1 0 0 1 2 1 1",
+        "4 0 1 1 0 0 6 3 3", "5 0 2 1 3 0 4 2 2", "6 0 2 1 3 1 4 2 2", "7 0 1 0 0 0 6 3 3", "accepted 7",
+    ]),
+    ("walk-through", &[
+        "0 0 1 0 0 0 503 959 895", "1 0 1 0 0 0 22 62 286", "2 0 1 0 0 0 22 30 30", "3 0 1 0 0 0 22 30 30",
+        "4 0 1 0 0 0 22 24 6", "5 0 1 0 0 1 2 8 4", "accepted 5",
+    ]),
+];
+
+#[test]
+fn the_papers_examples() {
+    for (name, expected) in EXAMPLES {
+        let lines = read(&format!("lines/{name}.txt"));
+        assert!(
+            lines.lines().eq(expected.iter().copied()),
+            "{name}: {lines}"
+        );
+    }
+}
+
+/// Every wrong engine can be made, and the file of faults has a line for each and no other. What
+/// the lines say is tried by `--bin wrong_engines -- --check`, which takes a minute.
+#[test]
+fn every_wrong_engine_has_its_line() {
+    let (faults, engines) = (read(FAULTS), WrongEngine::all());
+    let names: BTreeSet<String> = kit::vectors().into_iter().map(|it| it.name).collect();
+    assert_eq!(faults.lines().count(), 1 + engines.len());
+    for (engine, line) in engines.iter().zip(faults.lines().skip(1)) {
+        assert!(engine.sources().len() > 1 && !engine.paper.is_empty());
+        let fields: Vec<&str> = line.split('\t').collect();
+        let [words, count, first] = fields[..] else {
+            panic!("not three fields: {line}");
+        };
+        assert_eq!(words, engine.words);
+        let count: usize = count.parse().expect("a number");
+        let first: Vec<&str> = first.split(' ').collect();
+        assert_eq!(first.len(), count.clamp(1, 8), "{line}");
+        assert!(first.iter().all(|name| names.contains(*name)), "{line}");
+    }
 }

@@ -101,10 +101,9 @@ fn order(word: &str) -> Result<Order, Reply> {
             let values = Values::of(values).map_err(|refusal| wrong(REFUSED, refusal))?;
             Order::Narrow { column, values }
         }
-        ("back", mark) => {
-            let mark = number(mark)?;
-            Order::Back { mark }
-        }
+        ("back", mark) => Order::Back {
+            mark: number(mark)?,
+        },
         ("mark", "") => Order::Mark,
         ("finish", "") => Order::Finish,
         _ => return Err(wrong(WRONG, ORDERS)),
@@ -119,13 +118,12 @@ fn left(book: Book, list: &OrderList, space: &mut Space) -> Result<String, Reply
     }
     let last = answers.last();
     let status = last.status();
-    let finish = match last.outcome() {
-        Some(outcome) => format!(r#""{outcome}""#),
-        None => "null".to_string(),
-    };
+    let finish = last.outcome().map(|outcome| format!(r#""{outcome}""#));
+    let finish = finish.unwrap_or_else(|| "null".into());
     let left: Vec<Vec<u8>> = last.domains().map(|left| left.iter().collect()).collect();
-    let body = format!(r#"{{"status":"{status}","finish":{finish},"left":{left:?}}}"#);
-    Ok(body)
+    Ok(format!(
+        r#"{{"status":"{status}","finish":{finish},"left":{left:?}}}"#
+    ))
 }
 
 fn wrong(status: &'static str, sentence: impl Display) -> Reply {

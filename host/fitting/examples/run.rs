@@ -2,32 +2,23 @@
 //! `cargo run --release -p fitting --example run -- ../books/harbour.bin mark narrow 2 1 finish back 1`.
 //! The exit status is 0 if the run is accepted, 1 if it is not, 2 if the words can't be read.
 
-use fitting::{Order, OrderList, Outcome, Space, Values};
-use std::env;
-use std::fs;
+use fitting::{Order, OrderList, Outcome, Refusal, Space, Values};
 use std::process::ExitCode;
+use std::{env, error::Error, fs};
 
 fn main() -> ExitCode {
     let mut words = env::args().skip(1);
-    let Some(file) = words.next() else {
+    let (Some(file), Some(orders)) = (words.next(), orders(words)) else {
         eprintln!("name a book file, then orders: narrow COLUMN MASK, mark, back MARK, finish");
         return ExitCode::from(2);
     };
-    let Some(orders) = orders(words) else {
-        eprintln!("an order is narrow COLUMN MASK, mark, back MARK or finish");
-        return ExitCode::from(2);
-    };
-    match fs::read(&file).map(|book| lines(&book, orders)) {
-        Ok(Ok(lines)) => {
+    match lines(&file, orders) {
+        Ok(lines) => {
             print!("{lines}");
             ExitCode::SUCCESS
         }
-        Ok(Err(refusal)) => {
-            println!("{refusal}");
-            ExitCode::FAILURE
-        }
         Err(error) => {
-            println!("{file}: {error}");
+            println!("{error}");
             ExitCode::FAILURE
         }
     }
@@ -53,9 +44,10 @@ fn orders(mut words: impl Iterator<Item = String>) -> Option<Vec<Order>> {
     Some(orders)
 }
 
-fn lines(bytes: &[u8], orders: Vec<Order>) -> Result<String, fitting::Refusal> {
-    let book = fitting::check(bytes)?;
-    let list = OrderList::of(orders)?;
+fn lines(file: &str, orders: Vec<Order>) -> Result<String, Box<dyn Error>> {
+    let bytes = fs::read(file).map_err(|error| format!("{file}: {error}"))?;
+    let book = fitting::check(&bytes)?;
+    let list = OrderList::of(orders).map_err(Refusal::from)?;
     let mut space = Space::new();
     let mut lines = String::new();
     for (i, answer) in book.run(&list, &mut space).iter().enumerate() {

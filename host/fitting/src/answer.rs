@@ -2,13 +2,17 @@
 
 use crate::{OrderRefusal, Values};
 use core::fmt;
-use core::iter::FusedIterator;
+use core::iter::{repeat_n, Map, RepeatN, Zip};
 use core::slice;
 
 /// The bytes of an answer.
 pub(crate) const ANSWER: usize = 72;
 const DOMAINS: usize = 8;
 const DOMAIN: usize = 4;
+
+/// The answers of a run in turn, made by [`Answers::iter`].
+pub type AnswerIter<'a> =
+    Map<Zip<slice::Iter<'a, [u8; ANSWER]>, RepeatN<u8>>, fn((&'a [u8; ANSWER], u8)) -> Answer<'a>>;
 
 /// The answers of an accepted run: the opening, then one for each order.
 ///
@@ -54,17 +58,17 @@ impl<'a> Answers<'a> {
 
     /// The answer before any order.
     pub fn opening(&self) -> Answer<'a> {
-        self.or_blank(self.parts.first())
+        self.numbered(0)
     }
 
     /// The answer to the last order; to an empty list the opening.
     pub fn last(&self) -> Answer<'a> {
-        self.or_blank(self.parts.last())
+        self.numbered(self.parts.len().saturating_sub(1))
     }
 
     /// Answer 0 is the opening, answer i that to order i.
     pub fn get(&self, number: usize) -> Option<Answer<'a>> {
-        self.iter().nth(number)
+        (number < self.parts.len()).then(|| self.numbered(number))
     }
 
     /// How many orders of the run were accepted.
@@ -79,28 +83,16 @@ impl<'a> Answers<'a> {
     }
 
     /// The answers in turn.
-    ///
-    /// ```
-    /// # let bytes = conformance::write(&conformance::harbour());
-    /// # let book = fitting::check(&bytes)?;
-    /// # let mut space = fitting::Space::new();
-    /// let mut list = fitting::OrderList::new();
-    /// list.mark()?.mark()?;
-    /// let answers = book.run(&list, &mut space);
-    /// assert!(answers.iter().map(|answer| answer.depth()).eq([0, 1, 2]));
-    /// # Ok::<(), fitting::Refusal>(())
-    /// ```
     pub fn iter(&self) -> AnswerIter<'a> {
-        AnswerIter {
-            parts: self.parts.iter(),
-            columns: self.columns,
-        }
+        let columns = repeat_n(self.columns, self.parts.len());
+        let parts = self.parts.iter().zip(columns);
+        parts.map(|(bytes, columns)| Answer { bytes, columns })
     }
 
     /// An accepted run has written the opening at least, so these bytes are there.
-    fn or_blank(&self, bytes: Option<&'a [u8; ANSWER]>) -> Answer<'a> {
+    fn numbered(&self, number: usize) -> Answer<'a> {
         Answer {
-            bytes: bytes.unwrap_or(&[0; ANSWER]),
+            bytes: self.parts.get(number).unwrap_or(&[0; ANSWER]),
             columns: self.columns,
         }
     }
@@ -130,48 +122,6 @@ impl<'a> IntoIterator for &Answers<'a> {
     }
 }
 
-/// The answers of a run in turn, made by [`Answers::iter`].
-#[derive(Clone, Debug)]
-pub struct AnswerIter<'a> {
-    parts: slice::Iter<'a, [u8; ANSWER]>,
-    columns: u8,
-}
-
-impl<'a> AnswerIter<'a> {
-    fn view(&self, bytes: &'a [u8; ANSWER]) -> Answer<'a> {
-        let columns = self.columns;
-        Answer { bytes, columns }
-    }
-}
-
-impl<'a> Iterator for AnswerIter<'a> {
-    type Item = Answer<'a>;
-
-    fn next(&mut self) -> Option<Answer<'a>> {
-        let bytes = self.parts.next()?;
-        Some(self.view(bytes))
-    }
-
-    fn nth(&mut self, n: usize) -> Option<Answer<'a>> {
-        let bytes = self.parts.nth(n)?;
-        Some(self.view(bytes))
-    }
-
-    fn size_hint(&self) -> (usize, Option<usize>) {
-        self.parts.size_hint()
-    }
-}
-
-impl<'a> DoubleEndedIterator for AnswerIter<'a> {
-    fn next_back(&mut self) -> Option<Answer<'a>> {
-        let bytes = self.parts.next_back()?;
-        Some(self.view(bytes))
-    }
-}
-
-impl ExactSizeIterator for AnswerIter<'_> {}
-impl FusedIterator for AnswerIter<'_> {}
-
 /// What a session shows at the opening, or after an order: a view of 72 bytes.
 ///
 /// ```
@@ -181,17 +131,17 @@ impl FusedIterator for AnswerIter<'_> {}
 /// use fitting::{OrderList, Status, Values};
 ///
 /// let mut list = OrderList::new();
-/// list.mark()?.narrow(2, Values::of([0])?)?;
-/// let answer = book.run(&list, &mut space).last();
+/// list.mark()?.narrow(2, Values::of([0])?)?.finish()?;
+/// let answers = book.run(&list, &mut space);
 ///
-/// assert_eq!(answer.refusal(), None);
-/// assert_eq!(answer.status(), Status::Open);
-/// assert_eq!(answer.depth(), 1);
-/// assert_eq!(answer.outcome(), None); // it is no finish
-/// assert_eq!(answer.done(), 0b11);
-/// assert!(answer.is_done(0) && answer.is_done(1));
-/// assert_eq!(answer.domain(0).to_string(), "0 1");
-/// assert_eq!(answer.bytes().len(), 72);
+/// let narrowed = answers.get(2).unwrap();
+/// assert_eq!((narrowed.refusal(), narrowed.outcome()), (None, None)); // it is no finish
+/// assert_eq!((narrowed.status(), narrowed.depth()), (Status::Open, 1));
+/// assert!(narrowed.is_done(0) && narrowed.is_done(1));
+/// assert_eq!(narrowed.domain(0).to_string(), "0 1");
+///
+/// let set: Option<Vec<u8>> = answers.last().full_set().map(Iterator::collect);
+/// assert_eq!(set, Some(vec![0, 0, 0]));
 /// # Ok::<(), Box<dyn std::error::Error>>(())
 /// ```
 #[derive(Clone, Copy, PartialEq, Eq, Hash)]
@@ -242,22 +192,12 @@ impl<'a> Answer<'a> {
     /// Whether a sheet is done: the session isn't dead, and at most one column of the sheet has more
     /// than one value left.
     pub fn is_done(&self, sheet: usize) -> bool {
-        sheet < 8 && self.bytes[4] >> sheet & 1 == 1
+        sheet < 8 && self.done() >> sheet & 1 == 1
     }
 
     /// The values left in each column.
     ///
     /// After an accepted finish the full set is here, one value for each column, or nothing for none.
-    ///
-    /// ```
-    /// # let bytes = conformance::write(&conformance::harbour());
-    /// # let book = fitting::check(&bytes)?;
-    /// # let mut space = fitting::Space::new();
-    /// let opening = book.run(&fitting::OrderList::new(), &mut space).opening();
-    /// let left: Vec<String> = opening.domains().map(|values| values.to_string()).collect();
-    /// assert_eq!(left, ["0 1 2", "0 1", "0 1"]);
-    /// # Ok::<(), fitting::Refusal>(())
-    /// ```
     pub fn domains(
         &self,
     ) -> impl ExactSizeIterator<Item = Values> + DoubleEndedIterator + Clone + 'a {
@@ -268,30 +208,15 @@ impl<'a> Answer<'a> {
 
     /// The values left in one column; none in a column that the book doesn't have.
     pub fn domain(&self, column: u8) -> Values {
-        let domain = self.domains().nth(column.into());
-        domain.unwrap_or_default()
+        self.domains().nth(column.into()).unwrap_or_default()
     }
 
     /// The values of the full set that a finish has found, one for each column.
-    ///
-    /// ```
-    /// # let bytes = conformance::write(&conformance::harbour());
-    /// # let book = fitting::check(&bytes)?;
-    /// # let mut space = fitting::Space::new();
-    /// let mut list = fitting::OrderList::new();
-    /// list.finish()?;
-    /// let answer = book.run(&list, &mut space).last();
-    /// assert_eq!(answer.full_set().unwrap().collect::<Vec<_>>(), [0, 0, 0]);
-    /// # Ok::<(), fitting::Refusal>(())
-    /// ```
     pub fn full_set(
         &self,
     ) -> Option<impl ExactSizeIterator<Item = u8> + DoubleEndedIterator + Clone + 'a> {
-        let found = self.outcome() == Some(Outcome::Found);
-        found.then(|| {
-            self.domains()
-                .map(|values| values.mask().trailing_zeros() as u8)
-        })
+        let lowest = |values: Values| values.mask().trailing_zeros() as u8;
+        (self.outcome()? == Outcome::Found).then(|| self.domains().map(lowest))
     }
 }
 
@@ -310,10 +235,6 @@ impl fmt::Debug for Answer<'_> {
 }
 
 /// How a session stands. It shows itself in the words dead, open and decided.
-///
-/// ```
-/// assert_eq!(fitting::Status::Decided.to_string(), "decided");
-/// ```
 #[derive(Clone, Copy, Debug, PartialEq, Eq, Hash)]
 pub enum Status {
     /// No value is left in any column.
@@ -335,10 +256,6 @@ impl fmt::Display for Status {
 }
 
 /// What an accepted finish says. It shows itself in the words found and none.
-///
-/// ```
-/// assert_eq!(fitting::Outcome::Found.to_string(), "found");
-/// ```
 #[derive(Clone, Copy, Debug, PartialEq, Eq, Hash)]
 pub enum Outcome {
     /// There is a full set, and the answer has the first in the place of the domains.

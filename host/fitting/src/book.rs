@@ -29,6 +29,7 @@ const ENTRY: usize = 8;
 /// let sheet = book.sheet(1).unwrap();
 /// assert_eq!(sheet.columns(), [1, 2]);
 /// assert_eq!(sheet.rows().collect::<Vec<_>>(), [[0, 0], [0, 1], [1, 1]]);
+/// assert_eq!((sheet.row(2), sheet.row(3)), (Some(&[1, 1][..]), None));
 ///
 /// assert_eq!(book.bytes(), bytes); // the same bytes, not a copy
 /// # Ok::<(), fitting::Refusal>(())
@@ -56,14 +57,6 @@ impl<'a> Book<'a> {
 
     /// The values of a column, 0 to V − 1; V is 1 to 32. There is none in a column that the book
     /// doesn't have.
-    ///
-    /// ```
-    /// # let bytes = conformance::write(&conformance::harbour());
-    /// # let book = fitting::check(&bytes)?;
-    /// assert_eq!(book.values(0).to_string(), "0 1 2");
-    /// assert!(book.values(3).is_empty());
-    /// # Ok::<(), fitting::Refusal>(())
-    /// ```
     pub fn values(&self, column: u8) -> Values {
         if column < self.columns() {
             Values::below(self.byte(COUNTS + usize::from(column)))
@@ -77,19 +70,6 @@ impl<'a> Book<'a> {
     /// With an accepted book, an [`OrderList`] and a [`Space`] no run is refused, so there is nothing
     /// to handle; the theorem is `AnyRun .accepted-run` in `crates/runs/specs/Promises.antt`. A refused
     /// *order* refuses no run: its answer says so.
-    ///
-    /// ```
-    /// # let bytes = conformance::write(&conformance::harbour());
-    /// # let book = fitting::check(&bytes)?;
-    /// use fitting::{OrderList, Space, Values};
-    ///
-    /// let mut list = OrderList::new();
-    /// list.narrow(2, Values::of([0])?)?;
-    /// let mut space = Space::new();
-    /// let left = book.run(&list, &mut space).last();
-    /// assert_eq!(left.domain(0).to_string(), "0 1");
-    /// # Ok::<(), Box<dyn std::error::Error>>(())
-    /// ```
     pub fn run<'s>(&self, list: &OrderList, space: &'s mut Space) -> Answers<'s> {
         match calls::run(self.bytes, list, &mut space.bytes) {
             Ok(answers) => answers,
@@ -102,16 +82,12 @@ impl<'a> Book<'a> {
         &self,
     ) -> impl ExactSizeIterator<Item = Sheet<'a>> + DoubleEndedIterator + Clone + 'a {
         let book = *self;
-        (0..book.sheet_count()).map(move |number| book.numbered(number))
+        (0..book.byte(5).into()).map(move |number| book.numbered(number))
     }
 
     /// The sheet of this number, counted from 0, if the book has it.
     pub fn sheet(&self, number: usize) -> Option<Sheet<'a>> {
-        (number < self.sheet_count()).then(|| self.numbered(number))
-    }
-
-    fn sheet_count(&self) -> usize {
-        self.byte(5).into()
+        self.sheets().nth(number)
     }
 
     fn numbered(&self, number: usize) -> Sheet<'a> {
@@ -167,35 +143,18 @@ impl<'a> Sheet<'a> {
 
     /// The rows in the order of the book, 0 to 508 of them. A row has one value for each of the
     /// sheet's columns, in their order. Rows may repeat.
-    ///
-    /// ```
-    /// # let bytes = conformance::write(&conformance::harbour());
-    /// # let book = fitting::check(&bytes)?;
-    /// let sheet = book.sheet(0).unwrap();
-    /// assert_eq!(sheet.rows().len(), 4);
-    /// assert!(sheet.rows().any(|row| row == [2, 1]));
-    /// assert_eq!((sheet.row(3), sheet.row(4)), (Some(&[2, 1][..]), None));
-    /// # Ok::<(), fitting::Refusal>(())
-    /// ```
     pub fn rows(
         &self,
     ) -> impl ExactSizeIterator<Item = &'a [u8]> + DoubleEndedIterator + Clone + 'a {
         let sheet = *self;
-        (0..sheet.rows).map(move |number| sheet.numbered(number))
+        (0..sheet.rows).map(move |number| sheet.row(number).unwrap_or_default())
     }
 
     /// The row of this number, counted from 0, if the sheet has it.
     pub fn row(&self, number: usize) -> Option<&'a [u8]> {
-        (number < self.rows).then(|| self.numbered(number))
-    }
-
-    fn numbered(&self, number: usize) -> &'a [u8] {
-        let block = BLOCK * (number / ROWS_OF_A_BLOCK);
-        part(
-            self.blocks,
-            block + 4 * (number % ROWS_OF_A_BLOCK),
-            self.columns.len(),
-        )
+        let (block, place) = (number / ROWS_OF_A_BLOCK, number % ROWS_OF_A_BLOCK);
+        (number < self.rows)
+            .then(|| part(self.blocks, BLOCK * block + 4 * place, self.columns.len()))
     }
 }
 

@@ -1,6 +1,6 @@
 //! The two calls, on bytes from anywhere.
 
-use crate::{library, Answers, Book, OrderList, Refusal};
+use crate::{check_number, run_number, Answers, Book, OrderList, Refusal};
 
 /// Checks a book, and gives a view of it if it is accepted.
 ///
@@ -23,10 +23,8 @@ use crate::{library, Answers, Book, OrderList, Refusal};
 /// # Ok::<(), Refusal>(())
 /// ```
 pub fn check(book: &[u8]) -> Result<Book<'_>, Refusal> {
-    match Refusal::from_number(check_number(book)) {
-        None => Ok(Book::accepted(book)),
-        Some(refusal) => Err(refusal),
-    }
+    let refusal = Refusal::from_number(check_number(book));
+    refusal.map_or(Ok(Book::accepted(book)), Err)
 }
 
 /// Runs a list over the bytes of a book from the opening, and gives the answers, read from the space.
@@ -56,41 +54,9 @@ pub fn run<'a>(book: &[u8], list: &OrderList, space: &'a mut [u8]) -> Result<Ans
     match Refusal::from_number(number) {
         None => {
             let columns = Book::accepted(book).columns();
-            Ok(Answers::written(
-                space,
-                list.len(),
-                columns,
-                number as usize,
-            ))
+            let accepted = number as usize;
+            Ok(Answers::written(space, list.len(), columns, accepted))
         }
         Some(refusal) => Err(refusal),
     }
-}
-
-/// Checks a book, and gives the library's own number: refusal × 65,536 + place, or, accepted,
-/// columns × 16 + sheets.
-///
-/// ```
-/// # let bytes = conformance::write(&conformance::harbour());
-/// assert_eq!(fitting::check_number(&bytes), 3 * 16 + 2);
-/// assert_eq!(fitting::check_number(b"no book"), 65_536);
-/// ```
-pub fn check_number(book: &[u8]) -> u64 {
-    library::check(book)
-}
-
-/// Runs a list of orders over a book, both as bytes, and gives the library's own number: refusal ×
-/// 65,536 + place, or, accepted, the number of accepted orders. Answer i is written into bytes 72 × i
-/// to 72 × i + 71 of the space.
-///
-/// ```
-/// # let book = conformance::write(&conformance::harbour());
-/// let mut space = [9; 75];
-/// assert_eq!(fitting::run_number(&book, &[], &mut space), 0);
-/// assert_eq!(space[..5], [0, 1, 0, 0, 0]);
-/// assert_eq!(space[72..], [9, 9, 9]);
-/// assert_eq!(fitting::run_number(&book, &[1, 2, 3], &mut space), 10 * 65_536);
-/// ```
-pub fn run_number(book: &[u8], orders: &[u8], answers: &mut [u8]) -> u64 {
-    library::run(book, orders, answers)
 }

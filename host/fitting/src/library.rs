@@ -15,15 +15,33 @@ unsafe extern "C" {
     ) -> u64;
 }
 
-/// The library's number for these bytes.
-pub(crate) fn check(book: &[u8]) -> u64 {
+/// Checks a book, and gives the library's own number: refusal × 65,536 + place, or, accepted,
+/// columns × 16 + sheets.
+///
+/// ```
+/// # let bytes = conformance::write(&conformance::harbour());
+/// assert_eq!(fitting::check_number(&bytes), 3 * 16 + 2);
+/// assert_eq!(fitting::check_number(b"no book"), 65_536);
+/// ```
+pub fn check_number(book: &[u8]) -> u64 {
     // SAFETY: the library takes any bytes. It reads only the `book_len` bytes at `book`, which the slice
     // keeps readable and unchanged during the call; it writes none of them and keeps no pointer.
     unsafe { fitting_check(book.as_ptr(), book.len()) }
 }
 
-/// The library's number for these orders over this book, and its answers in the space.
-pub(crate) fn run(book: &[u8], orders: &[u8], answers: &mut [u8]) -> u64 {
+/// Runs a list of orders over a book, both as bytes, and gives the library's own number: refusal ×
+/// 65,536 + place, or, accepted, the number of accepted orders. Answer i is written into bytes 72 × i
+/// to 72 × i + 71 of the space.
+///
+/// ```
+/// # let book = conformance::write(&conformance::harbour());
+/// let mut space = [9; 75];
+/// assert_eq!(fitting::run_number(&book, &[], &mut space), 0);
+/// assert_eq!(space[..5], [0, 1, 0, 0, 0]);
+/// assert_eq!(space[72..], [9, 9, 9]);
+/// assert_eq!(fitting::run_number(&book, &[1, 2, 3], &mut space), 10 * 65_536);
+/// ```
+pub fn run_number(book: &[u8], orders: &[u8], answers: &mut [u8]) -> u64 {
     // SAFETY: the library takes any bytes. It reads only those of the two slices, which stay
     // readable and unchanged during the call, and writes only into the space, which is lent to it
     // alone and so lies apart from both; it keeps no pointer.

@@ -16,7 +16,7 @@ pub type OrderIter<'a> = Map<slice::Iter<'a, [u8; 8]>, fn(&'a [u8; 8]) -> Order>
 /// gives the list back, or [`Full`]:
 ///
 /// ```
-/// use fitting::{Order, OrderList, Values};
+/// use fitting::{Order, OrderList, Refusal, Values};
 ///
 /// let mut list = OrderList::new();
 /// list.mark()?.narrow(2, Values::of([0])?)?.finish()?;
@@ -28,18 +28,11 @@ pub type OrderIter<'a> = Map<slice::Iter<'a, [u8; 8]>, fn(&'a [u8; 8]) -> Order>
 /// for order in &list {
 ///     println!("{order:?}");
 /// }
-/// # Ok::<(), Box<dyn std::error::Error>>(())
-/// ```
 ///
-/// Its bytes can be kept, and read again:
-///
-/// ```
-/// use fitting::{OrderList, Refusal};
-///
-/// let list = OrderList::from_bytes(&[2, 0, 0, 0, 0, 0, 0, 0])?;
+/// // Its bytes can be kept, and read again.
 /// assert_eq!(OrderList::from_bytes(list.as_bytes())?, list);
 /// assert_eq!(OrderList::from_bytes(&[2, 0, 0]), Err(Refusal::Orders));
-/// # Ok::<(), Refusal>(())
+/// # Ok::<(), Box<dyn std::error::Error>>(())
 /// ```
 #[derive(Clone)]
 pub struct OrderList {
@@ -61,15 +54,6 @@ impl OrderList {
     }
 
     /// These orders.
-    ///
-    /// ```
-    /// use fitting::{Full, Order, OrderList};
-    ///
-    /// let list = OrderList::of([Order::Mark, Order::Back { mark: 1 }])?;
-    /// assert!(list.iter().eq([Order::Mark, Order::Back { mark: 1 }]));
-    /// assert_eq!(OrderList::of([Order::Mark; 257]), Err(Full));
-    /// # Ok::<(), Full>(())
-    /// ```
     pub fn of(orders: impl IntoIterator<Item = Order>) -> Result<Self, Full> {
         let mut list = Self::new();
         for order in orders {
@@ -81,14 +65,8 @@ impl OrderList {
     /// Reads a list that came over the wire. Refused with 10 if these aren't whole orders, or more
     /// than a list may have; whether each *order* is right is for a run to say.
     pub fn from_bytes(bytes: &[u8]) -> Result<Self, Refusal> {
-        let (orders, rest) = bytes.as_chunks();
-        let mut list = Self::new();
-        match list.orders.get_mut(..orders.len()) {
-            Some(places) if rest.is_empty() => {
-                places.copy_from_slice(orders);
-                list.count = orders.len();
-                Ok(list)
-            }
+        match bytes.as_chunks() {
+            (orders, []) => Ok(Self::of(orders.iter().copied().map(Order::Raw))?),
             _ => Err(Refusal::Orders),
         }
     }
@@ -99,16 +77,6 @@ impl OrderList {
     }
 
     /// Adds an order at the end. A list that is full stays as it was.
-    ///
-    /// ```
-    /// use fitting::{Full, Order, OrderList};
-    ///
-    /// let mut list = OrderList::of([Order::Mark; OrderList::MOST])?;
-    /// assert!(list.push(Order::Finish).is_err());
-    /// assert_eq!((list.len(), list.pop()), (256, Some(Order::Mark)));
-    /// assert!(list.push(Order::Finish).is_ok());
-    /// # Ok::<(), Full>(())
-    /// ```
     pub fn push(&mut self, order: Order) -> Result<&mut Self, Full> {
         let place = self.orders.get_mut(self.count).ok_or(Full)?;
         *place = order.bytes();
@@ -144,17 +112,6 @@ impl OrderList {
     }
 
     /// Keeps the first so many orders; a list that has no more stays as it was.
-    ///
-    /// ```
-    /// # use fitting::OrderList;
-    /// let mut list = OrderList::new();
-    /// list.mark()?.mark()?.finish()?;
-    /// list.truncate(1);
-    /// assert_eq!(list.len(), 1);
-    /// list.clear();
-    /// assert!(list.is_empty());
-    /// # Ok::<(), fitting::Full>(())
-    /// ```
     pub fn truncate(&mut self, count: usize) {
         self.count = self.count.min(count);
     }

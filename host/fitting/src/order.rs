@@ -117,30 +117,26 @@ impl OrderRefusal {
 
     /// The refusal number, 20 to 25.
     pub const fn number(&self) -> u8 {
+        self.number_and_cause().0
+    }
+
+    const fn number_and_cause(&self) -> (u8, &'static str) {
         match *self {
-            Self::Kind => 20,
-            Self::Column => 21,
-            Self::Mask => 22,
-            Self::Depth => 23,
-            Self::Mark => 24,
-            Self::Zero => 25,
-            Self::Other { number } => number,
+            Self::Kind => (20, "there is no such kind of order"),
+            Self::Column => (21, "the book has no such column"),
+            Self::Mask => (22, "the mask has a value that the column doesn't have"),
+            Self::Depth => (23, "there are 16 marks already"),
+            Self::Mark => (24, "there is no such mark"),
+            Self::Zero => (25, "a byte that must be zero isn't"),
+            Self::Other { number } => (number, "the order is refused"),
         }
     }
 }
 
 impl fmt::Display for OrderRefusal {
     fn fmt(&self, f: &mut fmt::Formatter<'_>) -> fmt::Result {
-        let cause = match self {
-            Self::Kind => "there is no such kind of order",
-            Self::Column => "the book has no such column",
-            Self::Mask => "the mask has a value that the column doesn't have",
-            Self::Depth => "there are 16 marks already",
-            Self::Mark => "there is no such mark",
-            Self::Zero => "a byte that must be zero isn't",
-            Self::Other { .. } => "the order is refused",
-        };
-        write!(f, "refusal {}: {cause}", self.number())
+        let (number, cause) = self.number_and_cause();
+        write!(f, "refusal {number}: {cause}")
     }
 }
 

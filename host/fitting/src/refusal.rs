@@ -59,13 +59,6 @@ pub enum Refusal {
 
 impl Refusal {
     /// Reads the library's number; `None` if it is an accepted figure.
-    ///
-    /// ```
-    /// use fitting::Refusal;
-    ///
-    /// assert_eq!(Refusal::from_number(50), None);
-    /// assert_eq!(Refusal::from_number(4 * 65_536 + 3), Some(Refusal::Blocks { needed: 3 }));
-    /// ```
     pub const fn from_number(number: u64) -> Option<Self> {
         let place = (number % PLACES) as u16;
         match (number / PLACES, place) {
@@ -83,27 +76,25 @@ impl Refusal {
 
     /// The refusal number: 1 to 5 for a book, and 10 or 11 too for a run.
     pub const fn number(&self) -> u64 {
-        match *self {
-            Self::Length => 1,
-            Self::Check { .. } => 2,
-            Self::Head { .. } => 3,
-            Self::Blocks { .. } => 4,
-            Self::Row { .. } => 5,
-            Self::Orders => 10,
-            Self::Space { .. } => 11,
-            Self::Other { number, .. } => number,
-        }
+        self.number_and_place().0
     }
 
     /// The place: a block, an offset in the head, a number of blocks or of bytes, by the kind of
     /// refusal.
     pub const fn place(&self) -> u16 {
+        self.number_and_place().1
+    }
+
+    const fn number_and_place(&self) -> (u64, u16) {
         match *self {
-            Self::Length | Self::Orders => 0,
-            Self::Check { block } | Self::Row { block } => block,
-            Self::Head { offset } => offset,
-            Self::Blocks { needed } | Self::Space { needed } => needed,
-            Self::Other { place, .. } => place,
+            Self::Length => (1, 0),
+            Self::Check { block } => (2, block),
+            Self::Head { offset } => (3, offset),
+            Self::Blocks { needed } => (4, needed),
+            Self::Row { block } => (5, block),
+            Self::Orders => (10, 0),
+            Self::Space { needed } => (11, needed),
+            Self::Other { number, place } => (number, place),
         }
     }
 }

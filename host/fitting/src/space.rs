@@ -18,19 +18,6 @@ pub const fn space_for(orders: usize) -> usize {
 ///
 /// One for each thread will do, used for run after run: a run writes its answers and leaves the rest
 /// as it was. A host that wants it off the stack puts it into a `Box`, or into a static.
-///
-/// ```
-/// # let bytes = conformance::write(&conformance::harbour());
-/// # let book = fitting::check(&bytes)?;
-/// use fitting::{OrderList, Space};
-///
-/// let mut space = Space::new();
-/// for _ in 0..3 {
-///     let answers = book.run(&OrderList::new(), &mut space);
-///     assert_eq!(answers.opening().domain(0).to_string(), "0 1 2");
-/// }
-/// # Ok::<(), fitting::Refusal>(())
-/// ```
 #[derive(Clone)]
 pub struct Space {
     pub(crate) bytes: [u8; space_for(OrderList::MOST)],

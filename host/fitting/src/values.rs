@@ -24,18 +24,13 @@ use core::ops::{BitAnd, BitOr, Sub};
 /// for value in values {
 ///     println!("<option>{value}</option>"); // 0, then 2, then 5
 /// }
+///
+/// // Sets are met, joined and cut like those of `std`.
+/// let low = Values::of(0..3)?;
+/// assert_eq!(low & values, Values::of([0, 2])?);
+/// assert_eq!(low | values, Values::of([0, 1, 2, 5])?);
+/// assert_eq!((low - values).single(), Some(1));
 /// # Ok::<(), fitting::OrderRefusal>(())
-/// ```
-///
-/// Sets are met, joined and cut like those of `std`:
-///
-/// ```
-/// # use fitting::Values;
-/// # let of = |values: &[u8]| Values::of(values.iter().copied()).unwrap();
-/// let (low, even) = (of(&[0, 1, 2]), of(&[0, 2, 4]));
-/// assert_eq!(low & even, of(&[0, 2]));
-/// assert_eq!(low | even, of(&[0, 1, 2, 4]));
-/// assert_eq!(low - even, of(&[1]));
 /// ```
 #[derive(Clone, Copy, Default, PartialEq, Eq, Hash)]
 pub struct Values(u32);
@@ -46,40 +41,22 @@ impl Values {
 
     /// These values, in any order. A value above 31 is one that no column has, so it is refused as
     /// the library refuses such values, with 22.
-    ///
-    /// ```
-    /// use fitting::{OrderRefusal, Values};
-    ///
-    /// assert_eq!(Values::of([1, 0])?, Values::of(0..2)?);
-    /// assert_eq!(Values::of([])?, Values::NONE);
-    /// assert_eq!(Values::of([1, 32]), Err(OrderRefusal::Mask));
-    /// # Ok::<(), OrderRefusal>(())
-    /// ```
     pub fn of(values: impl IntoIterator<Item = u8>) -> Result<Self, OrderRefusal> {
         let mut mask = 0;
         for value in values {
-            mask |= bit(value).ok_or(OrderRefusal::Mask)?;
+            mask |= 1_u32.checked_shl(value.into()).ok_or(OrderRefusal::Mask)?;
         }
         Ok(Self(mask))
     }
 
     /// The values of a mask, bit v for value v.
-    ///
-    /// ```
-    /// # use fitting::Values;
-    /// assert_eq!(Values::from_mask(0b101), Values::of([0, 2])?);
-    /// # Ok::<(), fitting::OrderRefusal>(())
-    /// ```
     pub const fn from_mask(mask: u32) -> Self {
         Self(mask)
     }
 
     /// The values 0 to count − 1.
     pub(crate) const fn below(count: u8) -> Self {
-        Self(match u32::MAX.checked_shl(count as u32) {
-            Some(above) => !above,
-            None => u32::MAX,
-        })
+        Self(!u32::MAX.unbounded_shl(count as u32))
     }
 
     /// The set as a mask, bit v for value v.
@@ -89,10 +66,7 @@ impl Values {
 
     /// Whether the set has this value; it never has one above 31.
     pub const fn contains(self, value: u8) -> bool {
-        match bit(value) {
-            Some(bit) => self.0 & bit != 0,
-            None => false,
-        }
+        value < 32 && self.0 >> value & 1 == 1
     }
 
     /// How many values the set has, 0 to 32.
@@ -106,14 +80,6 @@ impl Values {
     }
 
     /// The value, where the set has just one.
-    ///
-    /// ```
-    /// # use fitting::Values;
-    /// assert_eq!(Values::of([7])?.single(), Some(7));
-    /// assert_eq!(Values::of([6, 7])?.single(), None);
-    /// assert!(Values::NONE.is_empty() && Values::NONE.single().is_none());
-    /// # Ok::<(), fitting::OrderRefusal>(())
-    /// ```
     pub const fn single(self) -> Option<u8> {
         match self.0.count_ones() {
             1 => Some(self.0.trailing_zeros() as u8),
@@ -122,22 +88,9 @@ impl Values {
     }
 
     /// The values in rising order.
-    ///
-    /// ```
-    /// # use fitting::Values;
-    /// let values = Values::of([5, 0, 2])?;
-    /// assert!(values.iter().eq([0, 2, 5]));
-    /// assert_eq!(values.iter().next_back(), Some(5));
-    /// # Ok::<(), fitting::OrderRefusal>(())
-    /// ```
     pub const fn iter(self) -> ValueIter {
         ValueIter(self)
     }
-}
-
-/// The mask of one value; there is none above 31.
-const fn bit(value: u8) -> Option<u32> {
-    1_u32.checked_shl(value as u32)
 }
 
 impl BitAnd for Values {

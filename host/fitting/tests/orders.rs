@@ -1,12 +1,7 @@
 //! Sets of values, orders, and lists of them.
 
-use fitting::{Full, Order, OrderList, Refusal, Values};
+use fitting::{Full, Order, OrderList, OrderRefusal, Refusal, Values};
 use std::collections::HashSet;
-
-fn narrow(column: u8, mask: u32) -> Order {
-    let values = Values::from_mask(mask);
-    Order::Narrow { column, values }
-}
 
 #[test]
 fn a_set_is_its_mask() {
@@ -14,12 +9,9 @@ fn a_set_is_its_mask() {
         let values = Values::from_mask(mask);
         let expected: Vec<u8> = (0..32).filter(|value| mask >> value & 1 == 1).collect();
         assert_eq!(values.mask(), mask);
-        assert_eq!(values.iter().collect::<Vec<_>>(), expected);
+        assert!(values.iter().eq(expected.iter().copied()));
         assert!(values.iter().rev().eq(expected.iter().rev().copied()));
-        assert_eq!(
-            (values.len(), values.iter().len()),
-            (expected.len(), expected.len())
-        );
+        assert_eq!([values.len(), values.iter().len()], [expected.len(); 2]);
         assert_eq!(values.is_empty(), expected.is_empty());
         assert!((0..=255).all(|value| values.contains(value) == expected.contains(&value)));
         assert_eq!(values.single(), (expected.len() == 1).then(|| expected[0]));
@@ -28,6 +20,7 @@ fn a_set_is_its_mask() {
         assert_eq!(values.to_string(), words.join(" "));
         assert_eq!(format!("{values:?}"), format!("{{{}}}", words.join(", ")));
     }
+    assert_eq!(Values::of([1, 32]), Err(OrderRefusal::Mask));
 }
 
 #[test]
@@ -35,53 +28,48 @@ fn a_set_is_taken_from_both_ends() {
     let mut values = Values::from_mask(0x8000_0013).iter();
     assert_eq!([values.next(), values.next_back()], [Some(0), Some(31)]);
     assert_eq!([values.next_back(), values.next()], [Some(4), Some(1)]);
-    assert_eq!(
-        [values.next_back(), values.next(), values.next()],
-        [None; 3]
-    );
+    assert_eq!([values.next_back(), values.next()], [None; 2]);
 }
 
 #[test]
 fn orders_have_their_bytes_and_read_back() {
-    for (order, bytes) in [
-        (narrow(15, 0x8421_0001), [1, 15, 0, 0, 1, 0, 0x21, 0x84]),
-        (narrow(255, 0), [1, 255, 0, 0, 0, 0, 0, 0]),
-        (Order::Mark, [2, 0, 0, 0, 0, 0, 0, 0]),
-        (Order::Back { mark: 16 }, [3, 16, 0, 0, 0, 0, 0, 0]),
-        (Order::Finish, [4, 0, 0, 0, 0, 0, 0, 0]),
+    let values = Values::from_mask(0x8421_0001);
+    for (order, bytes, free) in [
+        (
+            Order::Narrow { column: 15, values },
+            [1, 15, 0, 0, 1, 0, 0x21, 0x84],
+            0b1111_0010,
+        ),
+        (Order::Mark, [2, 0, 0, 0, 0, 0, 0, 0], 0),
+        (Order::Back { mark: 16 }, [3, 16, 0, 0, 0, 0, 0, 0], 0b10),
+        (Order::Finish, [4, 0, 0, 0, 0, 0, 0, 0], 0),
     ] {
         assert_eq!(order.bytes(), bytes);
         assert_eq!(Order::from(bytes), order);
-        // No other byte may be changed, or it is one of the four no longer.
-        for at in (0..8).filter(|&at| bytes[0] != 1 || at == 2 || at == 3) {
-            let mut wrong = bytes;
-            wrong[at] ^= 0x80;
-            let back = bytes[0] == 3 && at == 1;
-            assert_eq!(Order::from(wrong) == Order::Raw(wrong), !back, "{wrong:?}");
-            assert_eq!(Order::from(wrong).bytes(), wrong);
+        // Where another byte than the free ones is changed, it is one of the four no longer.
+        for at in 0..8 {
+            let mut changed = bytes;
+            changed[at] ^= 0x80;
+            let raw = Order::from(changed) == Order::Raw(changed);
+            assert_eq!(raw, free >> at & 1 == 0, "{changed:?}");
+            assert_eq!(Order::from(changed).bytes(), changed);
         }
     }
 }
 
 #[test]
-fn a_list_is_its_orders() {
-    let orders = [narrow(2, 5), Order::Mark, Order::Raw([7; 8]), Order::Finish];
-    let list = OrderList::of(orders).unwrap();
-    assert_eq!(list.as_bytes(), orders.map(Order::bytes).as_flattened());
-    assert!(list.iter().eq(orders));
+fn a_list_is_its_orders() -> Result<(), Full> {
+    let values = Values::from_mask(5);
+    let narrow = Order::Narrow { column: 2, values };
+    let orders = [narrow, Order::Mark, Order::Back { mark: 7 }, Order::Finish];
+    let mut list = OrderList::new();
+    list.narrow(2, values)?.mark()?.back(7)?.finish()?;
+    assert_eq!(list, OrderList::of(orders)?);
     assert!(list.iter().rev().eq(orders.into_iter().rev()));
     assert_eq!(list.iter().len(), 4);
-    let shown =
-        "[Narrow { column: 2, values: {0, 2} }, Mark, Raw([7, 7, 7, 7, 7, 7, 7, 7]), Finish]";
+    let shown = "[Narrow { column: 2, values: {0, 2} }, Mark, Back { mark: 7 }, Finish]";
     assert_eq!(format!("{list:?}"), shown);
-    let mut built = OrderList::new();
-    built
-        .narrow(2, Values::from_mask(5))
-        .unwrap()
-        .mark()
-        .unwrap();
-    built.push([7; 8].into()).unwrap().finish().unwrap();
-    assert_eq!(built, list);
+    Ok(())
 }
 
 /// Two lists with the same orders are the same, whatever stood in them before.
@@ -97,21 +85,20 @@ fn what_was_taken_away_is_gone() {
     assert_eq!(list.len(), 1);
     list.truncate(0);
     assert_eq!((list.pop(), &list), (None, &OrderList::default()));
+    list.mark().unwrap().clear();
     assert!(list.is_empty() && list.as_bytes().is_empty());
 }
 
 #[test]
 fn a_full_list_stays_as_it_was() {
-    let mut list = OrderList::new();
-    for number in 0..OrderList::MOST {
-        list.push(Order::Back { mark: number as u8 }).unwrap();
-    }
+    let orders = (0..=255).map(|mark| Order::Back { mark });
+    let mut list = OrderList::of(orders.clone()).unwrap();
     let before = list.clone();
     assert!(list.push(Order::Mark).is_err_and(|full| full == Full));
     assert!(list.narrow(0, Values::NONE).is_err());
     assert!(list.mark().is_err() && list.back(1).is_err() && list.finish().is_err());
     assert_eq!(list, before);
-    assert_eq!(OrderList::of(list.iter().chain([Order::Mark])), Err(Full));
+    assert_eq!(OrderList::of(orders.chain([Order::Mark])), Err(Full));
 }
 
 /// Of any length only those are read that no run refuses.

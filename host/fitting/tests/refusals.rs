@@ -1,83 +1,61 @@
-//! Refusals: their numbers, their places and their sentences.
+//! Refusals: their names, their numbers, their places and their sentences.
 
 use fitting::{OrderRefusal, Refusal};
 
-const PLACES: u64 = 65_536;
-
 #[test]
-fn every_number_reads_back() {
-    for number in (0..=12).chain([1 << 16, u64::MAX / PLACES]) {
-        for place in [0, 1, 32, 33, 507, 65_535] {
-            let refusal = Refusal::from_number(number * PLACES + place);
-            let read = refusal.map(|refusal| (refusal.number(), u64::from(refusal.place())));
-            assert_eq!(read, (number > 0).then_some((number, place)));
-        }
-    }
-}
-
-#[test]
-fn only_unnamed_numbers_are_other() {
-    for (number, place, named) in [
-        (1, 0, true),
-        (1, 1, false),
-        (5, 9, true),
-        (6, 0, false),
-        (10, 0, true),
-        (10, 1, false),
-        (11, 72, true),
-        (12, 0, false),
-    ] {
-        let refusal = Refusal::from_number(number * PLACES + place).unwrap();
-        assert_eq!(!matches!(refusal, Refusal::Other { .. }), named);
-    }
-}
-
-#[test]
-fn every_refusal_has_its_sentence() {
-    let length = "refusal 1: the length isn't a multiple of 512 from 512 to 16,896";
-    let row = "refusal 5: in block 7 a row value is too large or a byte that must be zero isn't";
-    let orders = "refusal 10: the orders aren't a multiple of 8 bytes or exceed 2,048 bytes";
-    for (number, place, sentence) in [
-        (1, 0, length),
-        (2, 3, "refusal 2: the check of block 3 is wrong"),
-        (3, 30, "refusal 3: the head field at byte 30 is wrong"),
-        (4, 33, "refusal 4: the blocks aren't the 33 needed"),
-        (5, 7, row),
-        (10, 0, orders),
-        (11, 18_504, "refusal 11: the answers need 18504 bytes"),
-        (9, 2, "refusal 9: place 2"),
-    ] {
-        let refusal = Refusal::from_number(number * PLACES + place).unwrap();
-        assert_eq!(refusal.to_string(), sentence);
-    }
-}
-
-#[test]
-fn every_number_of_an_order_reads_back() {
-    for number in 0..=255 {
-        let refusal = OrderRefusal::from_number(number);
-        let read = refusal.map(|refusal| refusal.number());
-        assert_eq!(read, (number > 0).then_some(number));
-        let named = !matches!(refusal, None | Some(OrderRefusal::Other { .. }));
-        assert_eq!(named, (20..=25).contains(&number));
-    }
-}
-
-#[test]
-fn every_refusal_of_an_order_has_its_sentence() {
-    for (number, sentence) in [
-        (20, "refusal 20: there is no such kind of order"),
-        (21, "refusal 21: the book has no such column"),
+fn every_refusal_has_its_name_and_its_sentence() {
+    use Refusal::*;
+    let length = "the length isn't a multiple of 512 from 512 to 16,896";
+    let row = "in block 7 a row value is too large or a byte that must be zero isn't";
+    let orders = "the orders aren't a multiple of 8 bytes or exceed 2,048 bytes";
+    let space = "the answers need 18504 bytes";
+    let other = |number, place, words| (Other { number, place }, number, place, words);
+    for (refusal, number, place, sentence) in [
+        (Length, 1, 0, length),
+        (Check { block: 3 }, 2, 3, "the check of block 3 is wrong"),
         (
-            22,
-            "refusal 22: the mask has a value that the column doesn't have",
+            Head { offset: 9 },
+            3,
+            9,
+            "the head field at byte 9 is wrong",
         ),
-        (23, "refusal 23: there are 16 marks already"),
-        (24, "refusal 24: there is no such mark"),
-        (25, "refusal 25: a byte that must be zero isn't"),
-        (26, "refusal 26: the order is refused"),
+        (Blocks { needed: 8 }, 4, 8, "the blocks aren't the 8 needed"),
+        (Row { block: 7 }, 5, 7, row),
+        (Orders, 10, 0, orders),
+        (Space { needed: 18_504 }, 11, 18_504, space),
+        other(1, 1, "place 1"),
+        other(6, 0, "place 0"),
+        other(10, 65_535, "place 65535"),
+        other(12, 0, "place 0"),
+        other(u64::MAX >> 16, 2, "place 2"),
     ] {
-        let refusal = OrderRefusal::from_number(number).unwrap();
-        assert_eq!(refusal.to_string(), sentence);
+        let read = Refusal::from_number(number << 16 | u64::from(place));
+        assert_eq!(read, Some(refusal));
+        assert_eq!((refusal.number(), refusal.place()), (number, place));
+        assert_eq!(refusal.to_string(), format!("refusal {number}: {sentence}"));
     }
+    assert_eq!([0, 50, 65_535].map(Refusal::from_number), [None; 3]);
+}
+
+#[test]
+fn every_refusal_of_an_order_has_its_name_and_its_sentence() {
+    use OrderRefusal::*;
+    let named = [
+        (Kind, "there is no such kind of order"),
+        (Column, "the book has no such column"),
+        (Mask, "the mask has a value that the column doesn't have"),
+        (Depth, "there are 16 marks already"),
+        (Mark, "there is no such mark"),
+        (Zero, "a byte that must be zero isn't"),
+    ];
+    for number in 1..=255 {
+        let (refusal, sentence) = match number {
+            20..=25 => named[usize::from(number) - 20],
+            _ => (Other { number }, "the order is refused"),
+        };
+        assert_eq!(OrderRefusal::from_number(number), Some(refusal));
+        assert_eq!(refusal.number(), number);
+        assert_eq!(refusal.to_string(), format!("refusal {number}: {sentence}"));
+    }
+    assert_eq!(OrderRefusal::from_number(0), None);
 }

@@ -55,28 +55,3 @@ fn a_run_needs_little_stack() {
         assert_eq!(found, Ok(true));
     });
 }
-
-/// One book for all threads, a space for each.
-#[test]
-fn threads_share_a_book() {
-    let bytes = write(&regular(8, 16, 4, 100, 3));
-    let book = check(&bytes).unwrap();
-    let answer = |number: u8| {
-        let list = OrderList::of([Order::Narrow {
-            column: number % 8,
-            values: book.values(0) - Values::from_mask(1 << number),
-        }]);
-        let mut space = Box::new(Space::new());
-        let answers = book.run(&list.unwrap(), &mut space);
-        *answers.last().bytes()
-    };
-    let alone: Vec<_> = (0..16).map(answer).collect();
-    let together = thread::scope(|scope| {
-        let threads: Vec<_> = (0..16)
-            .map(|number| scope.spawn(move || answer(number)))
-            .collect();
-        let ended = threads.into_iter().map(|thread| thread.join().unwrap());
-        ended.collect::<Vec<_>>()
-    });
-    assert_eq!(together, alone);
-}

@@ -2,8 +2,8 @@
 
 #![allow(unsafe_code)]
 
-use crate::{try_bytes, Counts};
-use conformance::{harbour, write, MARK};
+use crate::try_bytes;
+use conformance::{harbour, write, Tally, MARK};
 use std::ffi::{c_int, c_void};
 use std::ptr;
 use std::sync::{LazyLock, Mutex};
@@ -30,7 +30,7 @@ unsafe extern "C" {
     fn pthread_join(thread: usize, result: *mut *mut c_void) -> c_int;
 }
 
-static COUNTS: LazyLock<Mutex<Counts>> = LazyLock::new(Default::default);
+static TRIED: LazyLock<Mutex<Tally>> = LazyLock::new(Default::default);
 
 /// libFuzzer's call with one input. A difference panics, and a panic that would leave this function
 /// aborts: libFuzzer then keeps the input.
@@ -46,16 +46,16 @@ unsafe extern "C" fn one_input(data: *const u8, len: usize) -> c_int {
         // SAFETY: libFuzzer lends so many bytes during this call.
         unsafe { std::slice::from_raw_parts(data, len) }
     };
-    let mut counts = COUNTS.lock().expect("no input panicked before");
-    try_bytes(bytes, &mut counts);
+    let mut tried = TRIED.lock().expect("no input panicked before");
+    try_bytes(bytes, &mut tried);
     0
 }
 
 /// Prints what was tried; `blocks.c` calls it when the process ends.
 #[export_name = "fitting_fuzz_summary"]
 extern "C" fn summary() {
-    if let Ok(counts) = COUNTS.lock() {
-        println!("{counts}");
+    if let Ok(tried) = TRIED.lock() {
+        println!("{tried}");
     }
 }
 

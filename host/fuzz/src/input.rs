@@ -15,7 +15,7 @@
 //!        bit 6     a book whose bytes stand there is filled up with zeros to whole blocks
 //!        bit 7     with a `room` below 16, the list is repeated up to 254 to 257 orders
 //!
-//!  a described book (its orders' kinds are brought to 0 to 5 too)
+//!  a described book (its orders' kinds are brought near the known ones, too)
 //!  +---+---+--------+  then for each of the S sheets
 //!  | C | S | V of C |  +-------+------------+------+------+----------------------+
 //!  +---+---+--------+  | width | columns, a | rows | seed | rows, k bytes each,  |
@@ -25,6 +25,7 @@
 
 use crate::put_aside_long_finishes;
 use conformance::{mend, space_for, write, Book, Random, Sheet, BLOCK};
+use reference::Kind;
 
 /// The longest input that a fuzz run makes.
 pub const LONGEST_INPUT: usize = 4_096;
@@ -32,6 +33,9 @@ pub const LONGEST_INPUT: usize = 4_096;
 pub const DESCRIBED: u8 = 1;
 /// Form: the checks are made right.
 pub const MENDED: u8 = 2;
+
+/// The known kinds of orders, and the number on either side of them.
+const KINDS: u8 = Kind::ALL.len() as u8 + 1;
 
 const WHOLE_BLOCKS: u8 = 1 << 6;
 const REPEATED: u8 = 1 << 7;
@@ -60,7 +64,8 @@ impl Input {
             .collect();
         let mut orders = rest.take(length).to_vec();
         if form & DESCRIBED != 0 {
-            orders.iter_mut().step_by(8).for_each(|kind| *kind %= 6);
+            let kinds = orders.iter_mut().step_by(8);
+            kinds.for_each(|kind| *kind %= KINDS);
         }
         if form & REPEATED != 0 && room < 16 && !orders.is_empty() {
             let most = 8 * (254 + usize::from(room % 4));

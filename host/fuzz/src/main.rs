@@ -6,7 +6,8 @@
 //! fuzz one-too-long          a list handed over with a wrong length, for valgrind to notice
 //! ```
 
-use fuzz::{run_one_too_long, seeds, try_bytes, Counts};
+use conformance::Tally;
+use fuzz::{run_one_too_long, seeds, try_bytes};
 use std::io::{Error, Result};
 use std::path::{Path, PathBuf};
 use std::{env, fs};
@@ -39,13 +40,13 @@ fn write_seeds(folder: &Path, count: u64) -> Result<()> {
 }
 
 fn replay(paths: &[&str]) -> Result<()> {
-    let mut counts = Counts::default();
+    let mut tally = Tally::default();
     for path in paths {
         for file in files(Path::new(path))? {
-            try_bytes(&fs::read(file)?, &mut counts);
+            try_bytes(&fs::read(file)?, &mut tally);
         }
     }
-    println!("{counts}");
+    println!("{tally}");
     Ok(())
 }
 

@@ -1,30 +1,34 @@
-//! The first inputs of a fuzz run: the scope paper's examples, small sweeps, and seeded books and lists.
+//! The first inputs of a fuzz run: the conformance kit, small sweeps, and seeded books and lists.
 
 use crate::{described, described_by_seed, raw, LONGEST_INPUT, MENDED};
-use conformance::{
-    back, example_orders, harbour, narrow, regular, tiny, write, Book, Case, Order, Run, Sheet,
-    FINISH, MARK,
-};
+use conformance::{harbour, kit, narrow, regular, tiny, write, Book, Case, Run, FINISH};
 use std::ops::Range;
 
-/// The first inputs, always the same: the paper's examples, sweeps over single bytes and over row
-/// counts, and so many seeded runs and seeded books, damaged ones among them.
+/// The first inputs, always the same: the vectors of the conformance kit, sweeps over single bytes and over
+/// row counts, and so many seeded runs and seeded books, damaged ones among them.
 pub fn seeds(count: u64) -> Vec<Vec<u8>> {
-    let mut seeds = examples();
+    let mut seeds = Vec::new();
+    for vector in kit::vectors() {
+        seeds.push(raw(0, &vector.book, &vector.orders));
+        seeds.extend(both(&vector.book, &vector.orders));
+    }
     seeds.extend(wrong_bytes(&tiny(), 4..96, 255));
     seeds.extend(wrong_bytes(&harbour(), 4..96, 255));
     seeds.extend(wrong_bytes(&regular(4, 5, 1, 3, 4), 512..528, 5));
     seeds.extend((0..=508).filter(|rows| rows % 64 < 2).map(row_count));
     for seed in 0..count {
         let run = Run::new(seed);
-        seeds.push(raw(MENDED, &run.book, &run.orders));
-        if let Some(book) = reference::decode(&run.book) {
-            seeds.push(described(&book, &run.orders));
-        }
+        seeds.extend(both(&run.book, &run.orders));
         seeds.push(raw(0, &Case::new(seed).bytes, &[]));
     }
     seeds.retain(|seed| seed.len() <= LONGEST_INPUT);
     seeds
+}
+
+/// A book as its bytes, whose checks are then mended, and described if it is accepted.
+fn both(book: &[u8], orders: &[u8]) -> impl Iterator<Item = Vec<u8>> {
+    let described = reference::decode(book).map(|book| described(&book, orders));
+    [raw(MENDED, book, orders)].into_iter().chain(described)
 }
 
 /// A book with each of these bytes made this value, one at a time, and the checks mended.
@@ -46,46 +50,4 @@ fn row_count(rows: usize) -> Vec<u8> {
         &[rows, (rows + 30).min(508)],
         &orders,
     )
-}
-
-/// K1 to K10, and the run that document 01 prints.
-fn examples() -> Vec<Vec<u8>> {
-    let h = harbour();
-    let lists: [(&Book, &[Order]); 9] = [
-        (&h, &[]),
-        (&h, &[narrow(0, 4)]),
-        (&h, &[narrow(2, 1), narrow(1, 2), FINISH]),
-        (&h, &[narrow(0, 2), FINISH, MARK, back(1)]),
-        (&h, &[narrow(0, 8)]),
-        (&h, &example_orders()),
-        (&differing(), &[FINISH]),
-        (&without_rows(), &[FINISH]),
-        (&tiny(), &[FINISH]),
-    ];
-    let mut examples = Vec::new();
-    for (book, list) in lists {
-        let orders = list.concat();
-        examples.push(described(book, &orders));
-        examples.push(raw(MENDED, &write(book), &orders));
-    }
-    examples
-}
-
-/// K7: "three columns of 2 values and a sheet 01 10 on each pair"
-fn differing() -> Book {
-    let sheet = |columns: [u8; 2]| Sheet {
-        columns: columns.to_vec(),
-        rows: vec![vec![0, 1], vec![1, 0]],
-    };
-    Book {
-        counts: vec![2; 3],
-        sheets: [[0, 1], [1, 2], [0, 2]].map(sheet).to_vec(),
-    }
-}
-
-/// K8: "a sheet without rows"
-fn without_rows() -> Book {
-    let mut book = harbour();
-    book.sheets[0].rows.clear();
-    book
 }

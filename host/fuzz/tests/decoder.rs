@@ -1,10 +1,10 @@
 //! Any bytes are an input, and the inputs that come of them are of every kind.
 
-use conformance::{example_orders, harbour, regular, space_for, write, Random, FINISH};
-use fuzz::{
-    described, put_aside_long_finishes, raw, seeds, try_bytes, Counts, Input, ASIDE, DESCRIBED,
-    LONGEST_INPUT, MENDED,
-};
+use conformance::{example_orders, harbour, look_for_steps, regular, space_for, write};
+use conformance::{Random, Tally, FINISH, NO_KIND};
+use fuzz::{described, put_aside_long_finishes, raw, seeds, try_bytes};
+use fuzz::{Input, DESCRIBED, LONGEST_INPUT, MENDED};
+use reference::{book_refusals, run_refusals};
 
 /// Bytes from chance, most often short.
 fn any_bytes(random: &mut Random) -> Vec<u8> {
@@ -37,19 +37,6 @@ fn any_bytes_are_an_input() {
         assert!(input.space <= space_for(&input.orders) + 256);
     }
     assert_eq!(Input::read(&[]).book, []);
-}
-
-#[test]
-fn every_byte_of_the_front_may_be_anything() {
-    let whole = described(&harbour(), &example_orders().concat());
-    for at in 0..12 {
-        for value in 0..=255 {
-            let mut bytes = whole.clone();
-            bytes[at] = value;
-            Input::read(&bytes);
-            Input::read(&bytes[..at]);
-        }
-    }
 }
 
 /// What the first inputs are made of comes out of them again.
@@ -118,29 +105,29 @@ fn long_finishes_are_put_aside() {
     }
     let mut orders = FINISH.repeat(3);
     assert_eq!(put_aside_long_finishes(&write(&book), &mut orders), 3);
-    assert_eq!(orders, ASIDE.repeat(3));
+    assert_eq!(orders, NO_KIND.repeat(3));
 }
 
 /// A few thousand inputs agree, and each kind of answer is among them.
 #[test]
 fn seeded_inputs_agree_and_are_of_every_kind() {
     let (random, seeds) = (&mut Random::new(2), seeds(300));
-    let mut counts = Counts::default();
+    let mut tally = Tally::default();
+    look_for_steps(&mut tally);
+    for (refusal, _) in book_refusals() {
+        tally.add(&format!("books, refusal {refusal}"), 0);
+    }
+    for refusal in run_refusals() {
+        tally.add(&format!("runs, refusal {refusal}"), 0);
+    }
     for seed in &seeds {
-        try_bytes(seed, &mut counts);
+        try_bytes(seed, &mut tally);
     }
     for _ in 0..5_000 {
-        try_bytes(&changed(random, &seeds), &mut counts);
-        try_bytes(&any_bytes(random), &mut counts);
+        try_bytes(&changed(random, &seeds), &mut tally);
+        try_bytes(&any_bytes(random), &mut tally);
     }
-    println!("{counts}");
-    assert_eq!(counts.inputs, seeds.len() + 10_000);
-    for refusal in 0..6 {
-        assert!(counts.books[refusal] > 20, "book, refusal {refusal}");
-    }
-    for refusal in [10, 11] {
-        assert!(counts.runs[refusal] > 20, "run, refusal {refusal}");
-    }
-    assert!(counts.runs[0] > 1_000, "accepted runs");
-    counts.steps.assert_more_than(100);
+    println!("{tally}");
+    assert_eq!(tally.of("inputs tried"), seeds.len() + 10_000);
+    tally.assert_each_above(20);
 }

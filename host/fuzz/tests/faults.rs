@@ -1,9 +1,8 @@
 //! What the proof takes for granted of a caller, and what the machine has that the proof knows
 //! nothing of: pointers, threads, the stack.
 
-use conformance::{
-    agreed_run, back, harbour, narrow, refused, regular, space_for, write, Book, Run, FINISH, MARK,
-};
+use conformance::{agreed, agreed_run, back, compare_run, harbour, narrow, refused, regular};
+use conformance::{space_for, write, Book, Run, FINISH, LIBRARY, MARK};
 use fuzz::{check_null, run_nulls, stack_used};
 use std::thread;
 
@@ -15,24 +14,20 @@ fn null_pointers_of_no_bytes() {
     assert_eq!(run_nulls(), [refused(1, 0), refused(11, 72)]);
 }
 
-/// All three parts at any offset from a boundary of 64 bytes.
+/// All three parts at any offset from where a piece of the heap begins, whatever lies around them.
 #[test]
 fn unaligned_pointers() {
-    for seed in 0..200 {
-        let run = Run::new(seed);
-        let (number, space) = agreed_run(&run.book, &run.orders, run.space);
-        for offset in 0..64 {
-            let at = |offset: usize, bytes: &[u8]| [&vec![0xEE; offset][..], bytes].concat();
-            let book = at(offset, &run.book);
-            let orders = at(offset * 7 % 64, &run.orders);
-            let mut answers = at(offset * 13 % 64, &vec![0xEE; run.space]);
-            let [book, orders] = [&book[offset..], &orders[offset * 7 % 64..]];
-            let answers = &mut answers[offset * 13 % 64..];
-            let needed = space_for(&run.orders);
-            assert_eq!(fitting::run_number(book, orders, answers), number);
-            if number < 65_536 {
-                assert_eq!(answers[..needed], space[..needed]);
-            }
+    let largest = write(&regular(16, 32, 8, 508, 4));
+    let runs = (0..200).map(Run::new);
+    let mut inputs: Vec<_> = runs.map(|run| (run.book, run.orders, run.space)).collect();
+    inputs.extend([(write(&harbour()), vec![], 72), (largest, vec![], 72)]);
+    let offsets: Vec<usize> = (0..64).collect();
+    for (book, orders, space) in &inputs {
+        compare_run(&LIBRARY, &offsets, book, orders, *space).unwrap();
+        let checked = agreed(book);
+        for offset in &offsets {
+            let shifted = [&vec![0xEE; *offset][..], book].concat();
+            assert_eq!(fitting::check_number(&shifted[*offset..]), checked);
         }
     }
 }
@@ -54,23 +49,19 @@ fn orders_that_lie_in_the_book() {
 /// threads over the same books.
 #[test]
 fn many_threads_at_once() {
-    let runs: Vec<Run> = (0..300).map(Run::new).collect();
-    let expected: Vec<_> = runs
-        .iter()
-        .map(|run| agreed_run(&run.book, &run.orders, run.space))
-        .collect();
+    let expected = |run: Run| (agreed_run(&run.book, &run.orders, run.space), run);
+    let runs: Vec<_> = (0..300).map(Run::new).map(expected).collect();
     thread::scope(|scope| {
         for first in 0..8 {
-            let (runs, expected) = (&runs, &expected);
+            let runs = runs.iter().cycle().skip(37 * first).take(4 * runs.len());
             scope.spawn(move || {
-                for i in (0..4 * runs.len()).map(|i| (i + 37 * first) % runs.len()) {
-                    let (run, (number, space)) = (&runs[i], &expected[i]);
+                for ((number, space), run) in runs {
                     let mut answers = vec![0xEE; run.space];
                     let given = fitting::run_number(&run.book, &run.orders, &mut answers);
-                    assert_eq!(given, *number, "run {i}");
+                    assert_eq!(given, *number);
                     if given < 65_536 {
                         let needed = space_for(&run.orders);
-                        assert_eq!(answers[..needed], space[..needed], "run {i}");
+                        assert_eq!(answers[..needed], space[..needed]);
                     }
                 }
             });

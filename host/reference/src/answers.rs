@@ -6,7 +6,7 @@ use crate::Book;
 
 /// "Status: 0 dead; 2 decided, each column holds one value; 1 open, otherwise." Dead is that "every
 /// domain is empty"; settled domains are never empty in part.
-pub fn status(domains: &[u32]) -> u8 {
+fn status(domains: &[u32]) -> u8 {
     if domains.iter().all(|&domain| domain == 0) {
         0
     } else if domains.iter().all(|domain| domain.count_ones() == 1) {
@@ -18,7 +18,7 @@ pub fn status(domains: &[u32]) -> u8 {
 
 /// "Sheet s is *done* when the session isn't dead and at most one column of s holds more than one
 /// value … The done byte has bit s for sheet s."
-pub fn done(book: &Book, domains: &[u32]) -> u8 {
+fn done(book: &Book, domains: &[u32]) -> u8 {
     let mut done = 0;
     for (s, sheet) in book.sheets.iter().enumerate() {
         let columns = sheet.columns.iter();

@@ -2,19 +2,20 @@
 
 use crate::closure::closure;
 use crate::orders::value_bit;
-use crate::Book;
+use crate::{Book, Outcome};
 
 /// Up to so many sets are simply tried, one after the other.
 const FEW: u128 = 256;
 
 /// "A full set takes one value of each current domain, and its values in each sheet's columns form
 /// a row. The first is lowest by column 0, then column 1, and so on." The domains are settled.
-pub(crate) fn first_full_set(book: &Book, domains: &[u32]) -> Option<Vec<u8>> {
+pub(crate) fn finish(book: &Book, domains: &[u32]) -> Outcome {
     if sets_within(domains) <= FEW {
-        by_trying_all(book, domains)
-    } else {
-        by_search(book, domains)
+        return by_trying_all(book, domains);
     }
+    let mut tries = usize::MAX;
+    let ended = search(book, domains, &mut tries);
+    ended.expect("no search makes so many tries")
 }
 
 /// How many sets take "one value of each current domain".
@@ -24,23 +25,25 @@ pub(crate) fn sets_within(domains: &[u32]) -> u128 {
 }
 
 /// The first of all sets, in their order, that is a full one.
-pub(crate) fn by_trying_all(book: &Book, domains: &[u32]) -> Option<Vec<u8>> {
-    let sets = (0..sets_within(domains)).map(|number| numbered_set(domains, number));
-    sets.into_iter().find(|set| is_full(book, set))
+pub(crate) fn by_trying_all(book: &Book, domains: &[u32]) -> Outcome {
+    let values: Vec<_> = domains.iter().map(|&domain| values_of(domain)).collect();
+    let mut sets = one_of_each(&values).into_iter();
+    let first = sets.find(|set| is_full(book, set));
+    first.map_or(Outcome::None, Outcome::Found)
 }
 
-/// The set of this number, counted from the lowest: the last column's value changes first.
-fn numbered_set(domains: &[u32], number: u128) -> Vec<u8> {
-    let mut left = number;
-    let mut set = Vec::new();
-    for &domain in domains.iter().rev() {
-        let values = values_of(domain);
-        let count = values.len() as u128;
-        set.push(values[(left % count) as usize]);
-        left /= count;
+/// Every way to take one thing of each list; what is taken of the last list changes first.
+pub(crate) fn one_of_each<T: Copy>(lists: &[Vec<T>]) -> Vec<Vec<T>> {
+    let mut all = vec![vec![]];
+    for list in lists {
+        let with = |one: &Vec<T>| {
+            list.iter()
+                .map(|&thing| [one, &[thing][..]].concat())
+                .collect()
+        };
+        all = all.iter().flat_map::<Vec<_>, _>(with).collect();
     }
-    set.reverse();
-    set
+    all
 }
 
 /// "its values in each sheet's columns form a row"
@@ -54,23 +57,27 @@ pub(crate) fn is_full(book: &Book, set: &[u8]) -> bool {
 
 /// "The search sets the lowest column that isn't single to each of its values in rising order and
 /// settles; picking a column and trying its values take turns until every column is single."
-pub(crate) fn by_search(book: &Book, domains: &[u32]) -> Option<Vec<u8>> {
+///
+/// Each value that is set takes one of the tries; without one left the search ends with nothing.
+pub fn search(book: &Book, domains: &[u32], tries: &mut usize) -> Option<Outcome> {
     if domains.contains(&0) {
-        return None;
+        return Some(Outcome::None);
     }
     let open = domains.iter().position(|domain| domain.count_ones() > 1);
     let Some(column) = open else {
-        return Some(domains.iter().map(|&domain| values_of(domain)[0]).collect());
+        let set = domains.iter().map(|&domain| values_of(domain)[0]);
+        return Some(Outcome::Found(set.collect()));
     };
     for value in values_of(domains[column]) {
+        *tries = tries.checked_sub(1)?;
         let mut tried = domains.to_vec();
         tried[column] = value_bit(value);
-        let found = by_search(book, &closure(book, &tried));
-        if found.is_some() {
-            return found;
+        let outcome = search(book, &closure(book, &tried), tries)?;
+        if outcome != Outcome::None {
+            return Some(outcome);
         }
     }
-    None
+    Some(Outcome::None)
 }
 
 /// The values of a domain in rising order.

@@ -2,11 +2,8 @@
 
 use std::ops::RangeInclusive;
 
-/// One field of the head: the offset where it starts, and whether it is as document 01 says.
-pub(crate) struct Field {
-    pub(crate) place: usize,
-    pub(crate) right: bool,
-}
+/// A field of the head: the offset where it starts, and whether it is as document 01 says.
+pub(crate) type Field = (usize, bool);
 
 /// "byte 4: columns C"
 pub(crate) fn columns(head: &[u8]) -> usize {
@@ -43,19 +40,27 @@ pub(crate) fn entry(head: &[u8], s: usize) -> Entry {
 
 /// "3 if a head field is wrong, place the offset of the first one, in offset order, zeros counted
 /// byte by byte"
-pub(crate) fn first_wrong_field(head: &[u8]) -> Option<usize> {
-    for field in fields(head) {
-        if !field.right {
-            return Some(field.place);
-        }
-    }
-    None
+pub(crate) fn wrong_field(head: &[u8]) -> Option<usize> {
+    let mut fields = fields(head).into_iter();
+    fields.find_map(|(place, right)| (!right).then_some(place))
 }
 
 /// Every field of the head, in offset order.
 pub(crate) fn fields(head: &[u8]) -> Vec<Field> {
-    let mut fields = opening_fields(head);
-    fields.extend(value_fields(head));
+    let mut fields = vec![
+        // "bytes 0 to 3: the letters FGB1 in ASCII"
+        (0, head[0..4] == *b"FGB1"),
+        // "byte 4: columns C, 1 to 16; byte 5: sheets S, 0 to 8; bytes 6, 7: zero"
+        (4, (1..=16).contains(&columns(head))),
+        (5, (0..=8).contains(&sheets(head))),
+    ];
+    fields.extend(zeros(head, 6..=7));
+    // "byte 8 + i, for i from 0 to 15: values V of column i, 1 to 32 for i < C, else zero."
+    for i in 0..16 {
+        let used = i < columns(head);
+        let range = if used { 1..=32 } else { 0..=0 };
+        fields.push((8 + i, range.contains(&values(head, i))));
+    }
     for s in 0..8 {
         if s < sheets(head) {
             fields.extend(entry_fields(head, s));
@@ -69,53 +74,12 @@ pub(crate) fn fields(head: &[u8]) -> Vec<Field> {
     fields
 }
 
-/// "bytes 0 to 3: the letters FGB1 in ASCII"; "byte 4: columns C, 1 to 16; byte 5: sheets S, 0 to
-/// 8; bytes 6, 7: zero"
-fn opening_fields(head: &[u8]) -> Vec<Field> {
-    let mut fields = vec![
-        Field {
-            place: 0,
-            right: head[0..4] == *b"FGB1",
-        },
-        Field {
-            place: 4,
-            right: (1..=16).contains(&columns(head)),
-        },
-        Field {
-            place: 5,
-            right: (0..=8).contains(&sheets(head)),
-        },
-    ];
-    fields.extend(zeros(head, 6..=7));
-    fields
-}
-
-/// "byte 8 + i, for i from 0 to 15: values V of column i, 1 to 32 for i < C, else zero."
-fn value_fields(head: &[u8]) -> Vec<Field> {
-    let mut fields = Vec::new();
-    for i in 0..16 {
-        let right = if i < columns(head) {
-            (1..=32).contains(&values(head, i))
-        } else {
-            values(head, i) == 0
-        };
-        fields.push(Field {
-            place: 8 + i,
-            right,
-        });
-    }
-    fields
-}
-
 /// "Byte 0: width k, 1 to 4. Bytes 1 to 4: k column numbers below C, each above the one before;
 /// the rest zero. Byte 5: zero. Bytes 6, 7: rows n, 0 to 508."
 fn entry_fields(head: &[u8], s: usize) -> Vec<Field> {
     let start = 24 + 8 * s;
     let entry = entry(head, s);
-    let mut fields = vec![Field {
-        place: start,
-        right: (1..=4).contains(&entry.width),
-    }];
+    let mut fields = vec![(start, (1..=4).contains(&entry.width))];
     for i in 0..4 {
         let number = entry.columns[i];
         let right = if i < entry.width {
@@ -123,27 +87,14 @@ fn entry_fields(head: &[u8], s: usize) -> Vec<Field> {
         } else {
             number == 0
         };
-        fields.push(Field {
-            place: start + 1 + i,
-            right,
-        });
+        fields.push((start + 1 + i, right));
     }
     fields.extend(zeros(head, start + 5..=start + 5));
-    fields.push(Field {
-        place: start + 6,
-        right: (0..=508).contains(&entry.rows),
-    });
+    fields.push((start + 6, (0..=508).contains(&entry.rows)));
     fields
 }
 
 /// "zeros counted byte by byte": each of these bytes is a field that must be zero.
-fn zeros(head: &[u8], places: RangeInclusive<usize>) -> Vec<Field> {
-    let mut fields = Vec::new();
-    for place in places {
-        fields.push(Field {
-            place,
-            right: head[place] == 0,
-        });
-    }
-    fields
+fn zeros(head: &[u8], places: RangeInclusive<usize>) -> impl Iterator<Item = Field> + '_ {
+    places.map(move |place| (place, head[place] == 0))
 }

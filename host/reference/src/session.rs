@@ -1,8 +1,8 @@
 //! A list of orders over a book, and what each order leaves.
 
 use crate::closure::closure;
-use crate::finish::first_full_set;
-use crate::orders::{allowed, depth, refusal, stand, Entry, Order};
+use crate::finish::finish;
+use crate::orders::{allowed, depth, refusal, stand, Entry, Kind, Order};
 use crate::Book;
 
 /// What can be seen of a session after an order, or at the opening.
@@ -32,31 +32,28 @@ pub enum Outcome {
 /// The opening, then what stands after each order of the list.
 pub fn session(book: &Book, orders: &[Order]) -> Vec<Shown> {
     let mut trail = Vec::new();
-    let mut shown = vec![show(book, &trail, 0, false)];
+    let mut shown = vec![show(book, &trail, 0)];
     for order in orders {
         let refusal = refusal(book, &trail, order);
         if refusal == 0 {
             stand(&mut trail, order);
         }
-        let finish = refusal == 0 && order[0] == 4;
-        shown.push(show(book, &trail, refusal, finish));
+        let mut after = show(book, &trail, refusal);
+        if refusal == 0 && Kind::of(order) == Kind::Finish {
+            after.outcome = finish(book, &after.domains);
+        }
+        shown.push(after);
     }
     shown
 }
 
 /// "The current domains after a list are the settled domains of its allowed values"; nothing is
 /// kept from the order before.
-fn show(book: &Book, trail: &[Entry], refusal: u8, finish: bool) -> Shown {
-    let domains = closure(book, &allowed(book, trail));
-    let outcome = if finish {
-        first_full_set(book, &domains).map_or(Outcome::None, Outcome::Found)
-    } else {
-        Outcome::NoFinish
-    };
+fn show(book: &Book, trail: &[Entry], refusal: u8) -> Shown {
     Shown {
         refusal,
         depth: depth(trail),
-        domains,
-        outcome,
+        domains: closure(book, &allowed(book, trail)),
+        outcome: Outcome::NoFinish,
     }
 }

@@ -6,6 +6,8 @@ use std::io;
 
 fn main() -> io::Result<()> {
     let folder = kit::folder();
+    // Before the folders are cleared: the contents of its books are read from there.
+    let files = kit::files();
     for old in fs::read_dir(&folder)? {
         let old = old?.path();
         // Only the folders are cleared: what stands beside them is written by hand or written over.
@@ -13,13 +15,12 @@ fn main() -> io::Result<()> {
             fs::remove_dir_all(old)?;
         }
     }
-    let files = kit::files();
-    for file in &files {
-        let path = folder.join(&file.path);
+    for (path, bytes) in &files {
+        let path = folder.join(path);
         fs::create_dir_all(path.parent().unwrap_or(&folder))?;
-        fs::write(path, &file.bytes)?;
+        fs::write(path, bytes)?;
     }
-    let bytes: usize = files.iter().map(|file| file.bytes.len()).sum();
+    let bytes: usize = files.values().map(Vec::len).sum();
     println!("{} files, {bytes} bytes", files.len());
     Ok(())
 }

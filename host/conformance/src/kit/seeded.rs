@@ -47,11 +47,16 @@ fn fits(run: &Run, shape: Shape) -> bool {
 
 fn vector(seed: u64, shows: &str) -> Vector {
     let run = Run::new(seed);
-    // Not zero, as most bytes of an answer are.
-    let fill = Random::new(seed).byte() | 1;
-    Vector::with_book(&format!("seeded-{seed}"), run.book)
-        .order_bytes(run.orders)
-        .space(run.space)
-        .fill(fill)
-        .says(&format!("Seed {seed}: {shows}"), PAPER)
+    let name = format!("seeded-{seed}");
+    Vector {
+        book_name: name.clone(),
+        name,
+        shows: format!("Seed {seed}: {shows}"),
+        paper: PAPER.into(),
+        book: run.book,
+        orders: run.orders,
+        space: Some(run.space),
+        // Not zero, as most bytes of an answer are.
+        fill: Random::new(seed).byte() | 1,
+    }
 }

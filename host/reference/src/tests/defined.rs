@@ -1,0 +1,188 @@
+//! The settled domains and the first full set once more, by nothing but their definitions: every box that there
+//! is, and every set.
+
+use super::{described, described_harbour};
+use crate::closure::lies_in;
+use crate::finish::{by_trying_all, finish, is_full, one_of_each, sets_within};
+use crate::{all_values, closure, search, Book, Outcome, Sheet};
+
+/// "A *sound box* has no empty column, and in it, for each sheet, every value of every column of
+/// that sheet is carried by a row of that sheet lying in the box."
+fn is_sound(book: &Book, domains: &[u32]) -> bool {
+    let no_empty_column = domains.iter().all(|&domain| domain != 0);
+    let every_value_carried = book.sheets.iter().all(|sheet| {
+        (0..sheet.columns.len()).all(|i| {
+            let lying = sheet.rows.iter().filter(|row| lies_in(sheet, row, domains));
+            let carried = lying.fold(0, |carried, row| carried | 1 << row[i]);
+            carried == domains[usize::from(sheet.columns[i])]
+        })
+    });
+    no_empty_column && every_value_carried
+}
+
+/// Every sound box within these domains.
+fn sound_boxes(book: &Book, allowed: &[u32]) -> Vec<Vec<u32>> {
+    let parts = |&most: &u32| (0..=most).filter(|part| part & !most == 0).collect();
+    let parts: Vec<_> = allowed.iter().map(parts).collect();
+    let mut boxes = one_of_each(&parts);
+    boxes.retain(|domains| is_sound(book, domains));
+    boxes
+}
+
+/// "the union, column by column, of all sound boxes within them"
+fn union_of_sound_boxes(book: &Book, allowed: &[u32]) -> Vec<u32> {
+    let mut union = vec![0; allowed.len()];
+    for domains in sound_boxes(book, allowed) {
+        for (all, domain) in union.iter_mut().zip(domains) {
+            *all |= domain;
+        }
+    }
+    union
+}
+
+/// The search with all the tries that it wants.
+fn by_search(book: &Book, domains: &[u32]) -> Outcome {
+    let mut tries = usize::MAX;
+    search(book, domains, &mut tries).unwrap()
+}
+
+/// Numbers from a seed: a step of a linear congruence, its upper bits.
+struct Numbers(u64);
+
+impl Numbers {
+    fn below(&mut self, end: u64) -> u8 {
+        self.0 = (self.0.wrapping_mul(6_364_136_223_846_793_005)).wrapping_add(1);
+        ((self.0 >> 33) % end) as u8
+    }
+
+    /// Up to four columns of one to three values each, or of two, and up to seven sheets.
+    fn book(&mut self) -> Book {
+        let alike = self.below(2) == 0;
+        let count = |_| if alike { 2 } else { 1 + self.below(3) };
+        let counts: Vec<u8> = (0..4).map(count).collect();
+        let counts = &counts[self.below(4).into()..];
+        let sheets = (0..self.below(8)).map(|_| self.sheet(counts)).collect();
+        let counts = counts.to_vec();
+        Book { counts, sheets }
+    }
+
+    /// Up to twelve rows. In half of the sheets the first value and the last must differ, as in K7.
+    fn sheet(&mut self, counts: &[u8]) -> Sheet {
+        let mut columns: Vec<u8> = (0..2 + self.below(2))
+            .map(|_| self.below(counts.len() as u64))
+            .collect();
+        columns.sort();
+        columns.dedup();
+        let mut value = |&column: &u8| self.below(counts[usize::from(column)].into());
+        let row = |_| columns.iter().map(&mut value).collect();
+        let mut rows: Vec<Vec<u8>> = (0..12).map(row).collect();
+        if columns.len() > 1 && self.below(2) == 0 {
+            rows.retain(|row| row[0] != row[row.len() - 1]);
+        } else {
+            rows.truncate(self.below(13).into());
+        }
+        Sheet { columns, rows }
+    }
+}
+
+#[test]
+fn closure_and_search_give_what_the_definitions_say() {
+    let numbers = &mut Numbers(1);
+    let [mut dead, mut struck, mut kept] = [0; 3];
+    let [mut none, mut lowest, mut higher] = [0; 3];
+    for case in 0..30_000 {
+        let book = numbers.book();
+        let mut allowed = Vec::new();
+        for &count in &book.counts {
+            let taken = numbers.below(8) & numbers.below(8) & numbers.below(8);
+            allowed.push(all_values(count) & !u32::from(taken));
+        }
+        let domains = closure(&book, &allowed);
+        let union = union_of_sound_boxes(&book, &allowed);
+        assert_eq!(domains, union, "case {case}: {book:?}");
+        let first = by_trying_all(&book, &domains);
+        assert_eq!(by_search(&book, &domains), first, "case {case}: {book:?}");
+        assert_eq!(finish(&book, &domains), first, "case {case}");
+        // Settling loses no full set, so the same one is first among all values.
+        assert_eq!(by_trying_all(&book, &allowed), first, "case {case}");
+        match domains {
+            _ if domains[0] == 0 => dead += 1,
+            _ if domains == allowed => kept += 1,
+            _ => struck += 1,
+        }
+        let values = domains.iter().map(|domain| domain.trailing_zeros() as u8);
+        match first {
+            Outcome::Found(set) if values.eq(set.iter().copied()) => lowest += 1,
+            Outcome::Found(_) => higher += 1,
+            _ => none += usize::from(domains[0] != 0),
+        }
+    }
+    println!("{dead} dead, {struck} struck, {kept} kept");
+    println!(
+        "{none} alive without a full set, {lowest} with the lowest values, {higher} with others"
+    );
+    assert!(dead > 5_000 && struck > 5_000 && kept > 5_000);
+    assert!(none > 100 && lowest > 2_000 && higher > 2_000);
+}
+
+/// One book whose boxes are few enough to count on paper: rows 00 and 11 on two columns.
+#[test]
+fn the_boxes_of_a_small_book() {
+    let book = described(&[2, 2], &[(&[0, 1], &[&[0, 0], &[1, 1]])]);
+    assert_eq!(sound_boxes(&book, &[3, 3]), [[1, 1], [2, 2], [3, 3]]);
+    assert_eq!(union_of_sound_boxes(&book, &[1, 3]), [1, 1]);
+    assert_eq!(union_of_sound_boxes(&book, &[1, 2]), [0, 0]);
+}
+
+/// Columns 0 and 1 are equal and column 2 is the other value: 0 wants 1 in column 3, and there only
+/// 1 in column 1 goes with it.
+#[test]
+fn the_lowest_value_leads_nowhere() {
+    let sheets: [(&[u8], &[&[u8]]); 4] = [
+        (&[0, 1], &[&[1, 1], &[0, 0]]),
+        (&[1, 2], &[&[0, 1], &[1, 0]]),
+        (&[0, 2, 3], &[&[0, 0, 1], &[0, 1, 1], &[1, 0, 0]]),
+        (&[1, 3], &[&[0, 0], &[1, 0], &[1, 1]]),
+    ];
+    let book = described(&[2, 2, 2, 2], &sheets);
+    let domains = closure(&book, &[3, 3, 3, 3]);
+    assert_eq!(domains, [3, 3, 3, 3]);
+    let found = Outcome::Found(vec![1, 1, 0, 0]);
+    assert_eq!(by_trying_all(&book, &domains), found);
+    // 0 in column 0 leads nowhere at once, and 1 leaves one value of each other column.
+    for (mut tries, ended) in [(0, None), (1, None), (2, Some(found))] {
+        assert_eq!(search(&book, &domains, &mut tries), ended);
+    }
+}
+
+/// "lowest by column 0, then column 1": 0 in column 0 counts before 0 in column 1.
+#[test]
+fn column_0_counts_first() {
+    let rows: &[&[u8]] = &[&[1, 0], &[0, 2], &[0, 1]];
+    let book = described(&[2, 3, 2], &[(&[0, 1], rows), (&[2], &[&[1]])]);
+    let domains = closure(&book, &[3, 7, 3]);
+    assert_eq!(domains, [3, 7, 2]);
+    let found = Outcome::Found(vec![0, 1, 1]);
+    assert_eq!(by_trying_all(&book, &domains), found);
+    assert_eq!(by_search(&book, &domains), found);
+}
+
+/// Each row of sheet 0 with each of sheet 1 that has the same motor, and no other.
+#[test]
+fn the_full_sets_of_harbour() {
+    let mut sets = one_of_each(&[vec![0, 1, 2], vec![0, 1], vec![0, 1]]);
+    assert_eq!(sets.len() as u128, sets_within(&[7, 3, 3]));
+    sets.retain(|set| is_full(&described_harbour(), set));
+    let full = ["000", "001", "100", "101", "111", "211"];
+    let digits = |set: &str| set.bytes().map(|digit| digit - b'0').collect();
+    assert_eq!(sets, full.map(digits) as [Vec<u8>; 6]);
+    assert_eq!(sets_within(&[!0; 16]), 1 << 80);
+    assert_eq!(sets_within(&[0, 0]), 0);
+}
+
+/// Sixteen columns of 32 values and no sheet: no set need be passed over.
+#[test]
+fn the_most_sets() {
+    let found = finish(&described(&[32; 16], &[]), &[!0, 2, 12].repeat(6)[..16]);
+    assert_eq!(found, Outcome::Found([0, 1, 2].repeat(6)[..16].to_vec()));
+}

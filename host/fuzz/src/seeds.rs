@@ -1,7 +1,7 @@
 //! The first inputs of a fuzz run: the conformance kit, small sweeps, and seeded books and lists.
 
 use crate::{described, described_by_seed, raw, LONGEST_INPUT, MENDED};
-use conformance::{harbour, kit, narrow, regular, tiny, write, Book, Case, Run, FINISH};
+use conformance::{harbour, kit, narrow, regular, tiny, write, Book, Case, Run, Sheet, FINISH};
 use std::ops::Range;
 
 /// The first inputs, always the same: the vectors of the conformance kit, sweeps over single bytes and over
@@ -16,6 +16,7 @@ pub fn seeds(count: u64) -> Vec<Vec<u8>> {
     seeds.extend(wrong_bytes(&harbour(), 4..96, 255));
     seeds.extend(wrong_bytes(&regular(4, 5, 1, 3, 4), 512..528, 5));
     seeds.extend((0..=508).filter(|rows| rows % 64 < 2).map(row_count));
+    seeds.extend((1..=508).filter(|rows| rows % 64 < 2).map(last_row));
     for seed in 0..count {
         let run = Run::new(seed);
         seeds.extend(both(&run.book, &run.orders));
@@ -50,4 +51,20 @@ fn row_count(rows: usize) -> Vec<u8> {
         &[rows, (rows + 30).min(508)],
         &orders,
     )
+}
+
+/// A sheet of so many rows that are all different, narrowed to its last: nothing else shows that it is there.
+fn last_row(rows: usize) -> Vec<u8> {
+    let row = |r: usize| vec![(r % 32) as u8, (r / 32) as u8];
+    let sheet = Sheet {
+        columns: vec![0, 1],
+        rows: (0..rows).map(row).collect(),
+    };
+    let book = Book {
+        counts: vec![32; 2],
+        sheets: vec![sheet],
+    };
+    let last = row(rows - 1);
+    let orders = [narrow(0, 1 << last[0]), narrow(1, 1 << last[1]), FINISH].concat();
+    raw(MENDED, &write(&book), &orders)
 }

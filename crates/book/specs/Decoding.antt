@@ -22,7 +22,7 @@ sheetOf b s = record { columns = tab (widthOf b s) (columnOf b s); rows = tab (r
 unfoldable pub bookOf : List ℕ → Book
 bookOf b = record { counts = tab (columnsOf b) (valuesOf b); sheets = tab (sheetsOf b) (sheetOf b) }
 
--- an accepted book decodes to a well-formed one, and its figure is that book's: proved in proofs/Decoded.antt
+-- an accepted book decodes to a well-formed one, and its figure is that book's: proved in proofs/Decoding.antt
 pub record AcceptedBook (b : List ℕ) : Type 0 where
   pub well-formed : WellFormed (bookOf b)
   -- "Accepted: C × 16 + S."

@@ -1,5 +1,5 @@
 -- The demands, so far as they speak of the definitions: what demands 1 and 2 say, how demand 3 compares two lists, and at the end the claims,
--- which `claim1` and `claim2` of proofs/Demands.antt prove. Demand 3 itself speaks of answers and sessions: `ComparedRuns` and `Demand3` (crate runs).
+-- which `claim1` and `claim2` of proofs/Demands.antt prove. Demand 3 itself speaks of answers and sessions: `ComparedRuns` and `Demand3` (crate promises).
 -- Quoted are the customer's demands and document 01.
 use mathlib.Core.Path.{_≡_}
 use mathlib.Core.Bool.{true, false}

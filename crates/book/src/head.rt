@@ -1,4 +1,4 @@
-// Block 0, the head: each field, and what is wrong in it. The layout is drawn in specs/Head.antt.
+// Block 0, the head: each field, and what is wrong in it. The layout is drawn in specs/Heads.antt.
 use crate::limit::*;
 use fields::half_at;
 use fields::wide;
@@ -62,7 +62,7 @@ pub fn rows(h: &[u8], s: usize) -> usize
     half_at(h, 30 + 8 * s)
 }
 
-// ---- what is wrong in a field: each function has the name of its definition in specs/Head.antt, where the paper's sentence stands
+// ---- what is wrong in a field: each function has the name of its definition in specs/Heads.antt, where the paper's sentence stands
 
 fn wrong_letters(h: &[u8]) -> bool
     requires { ⌜ 512 ≤ length (now h) ⌝ }

@@ -1,4 +1,4 @@
--- Propagation. The invariant is `Going` (Turns): what no waiting sheet has to look at is settled. A turn looks at one sheet (`going-on`); the values left,
+-- Propagation. The invariant is `Going` (Propagation): what no waiting sheet has to look at is settled. A turn looks at one sheet (`going-on`); the values left,
 -- and then the sheets that wait, fall (`going-less`); when none waits the closure is reached (`going-done`).
 use mathlib.Core.Path.{_∙_, refl}
 use Prim.Native.Nat.{_*_, _+_}

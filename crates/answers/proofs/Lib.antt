@@ -1,2 +1,3 @@
--- The laws behind the writer: the parts of an answer put one after the other, and answers one after the other.
+-- The laws of an answer's bytes, and of answers in a space.
 pub mod Answers
+pub mod Spaces

@@ -1,16 +1,14 @@
 -- The worked examples, by computation. A wrong definition shows here first. Assumes nothing.
 use mathlib.Core.Path.{refl}
-use Rattle.model.specs.Tests.{anyBelow, sum, lowest, tab}
-use Rattle.book.specs.Blocks.{wrongLength, wordSum, checkOf, wrongCheck, firstWrongCheck}
-use Rattle.book.specs.Heads.{wrongLetters, wrongColumns, wrongSheets, wrongValues, wrongWidth, notRising, wrongColumn, wrongRows, wrongInEntry, wrongEntry, wrongField, firstWrongField}
+use Rattle.heads.proofs.Acceptance.{computing as head-computing}
 use Rattle.book.specs.Rows.{blocksOf, firstBlock, blocksNeeded, rowPlace, placeBound, boundOf, wrongByte, wrongBlock, wrongSheet, kindOf, faultAt, faultInBlock, faultInSheet, firstFault}
 use Rattle.book.specs.Verdicts.{verdict, checkResult}
 use Rattle.book.specs.Decoding.{rowOf, sheetOf, bookOf}
-use Rattle.book.specs.Acceptance.{sealed, HarbourFacts, BlockFacts, FieldFacts, RowFacts}
+use Rattle.book.specs.Acceptance.{sealed, HarbourFacts, RowFacts}
 
 -- opens every definition that an example computes with; where one is missing, the example fails uncomputed, and not with `true` against `false`
 unfoldable pub computing : Unit {0}
-unfolding anyBelow sum lowest tab wrongLength wordSum checkOf wrongCheck firstWrongCheck wrongLetters wrongColumns wrongSheets wrongValues wrongWidth notRising wrongColumn wrongRows wrongInEntry wrongEntry wrongField firstWrongField blocksOf firstBlock blocksNeeded rowPlace placeBound boundOf wrongByte wrongBlock wrongSheet kindOf faultAt faultInBlock faultInSheet firstFault verdict checkResult rowOf sheetOf bookOf sealed
+unfolding head-computing blocksOf firstBlock blocksNeeded rowPlace placeBound boundOf wrongByte wrongBlock wrongSheet kindOf faultAt faultInBlock faultInSheet firstFault verdict checkResult rowOf sheetOf bookOf sealed
 computing = tt
 
 pub harbourFacts : HarbourFacts
@@ -20,53 +18,6 @@ harbourFacts = record {
   check0 = refl;
   check1 = refl;
   check2 = refl;
-}
-
-pub blockFacts : BlockFacts
-unfolding computing
-blockFacts = record {
-  none = refl;
-  least = refl;
-  odd = refl;
-  longest = refl;
-  long = refl;
-  carry = refl;
-  carry-last = refl;
-  bit31 = refl;
-  last-word = refl;
-}
-
-pub fieldFacts : FieldFacts
-unfolding computing
-fieldFacts = record {
-  right = refl;
-  letters = refl;
-  no-column = refl;
-  most-columns = refl;
-  many-columns = refl;
-  most-sheets = refl;
-  many-sheets = refl;
-  zero6 = refl;
-  zero7 = refl;
-  no-value = refl;
-  most-values = refl;
-  many-values = refl;
-  value-past = refl;
-  no-width = refl;
-  widest = refl;
-  wide = refl;
-  equal-column = refl;
-  high-column = refl;
-  past-width = refl;
-  byte5 = refl;
-  past-width1 = refl;
-  byte5-1 = refl;
-  no-rows = refl;
-  most-rows = refl;
-  many-rows = refl;
-  high-byte = refl;
-  unused-entry = refl;
-  last-zero = refl;
 }
 
 pub rowFacts : RowFacts

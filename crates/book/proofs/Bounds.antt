@@ -17,13 +17,13 @@ use Rattle.model.specs.Tests.{Finds, NoneIn}
 use Rattle.model.proofs.Firsts.{finds-empty, finds-more, finds-same, finds-any, finds-fours}
 use Rattle.model.proofs.Masks.{bit-or}
 use Rattle.model.proofs.Tests.{and-l, and-r, below, or-false-l, or-false-r, or-mono, or-swap, either}
-use Rattle.book.specs.Blocks.{word, blockAt}
+use Rattle.heads.specs.Blocks.{word, blockAt}
 use Rattle.book.specs.Bounds.{anyHigh, belowBounds, joined, overBounds, raisedRow, slackOf, BoundedSheet, SmallBounds, fourth, usedRows, wrongIn}
-use Rattle.book.specs.Limits.{setAt}
-use Rattle.book.specs.Heads.{rowsOf}
+use Rattle.heads.specs.Limits.{setAt}
+use Rattle.heads.specs.Heads.{rowsOf}
 use Rattle.book.specs.Rows.{blocksOf, boundOf, firstBlock, placeBound, wrongBlock, wrongByte}
-use Rattle.book.proofs.Blocks.{block-byte}
-use Rattle.book.proofs.Limits.{set-leb}
+use Rattle.heads.proofs.Blocks.{block-byte}
+use Rattle.heads.proofs.Limits.{set-leb}
 
 -- ---- the highest bits of the four bytes of a number
 -- the last digit of m / 2 ^ v is the highest bit of the byte p: then bit v of m tells whether p is 128 or more

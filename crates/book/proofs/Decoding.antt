@@ -13,14 +13,14 @@ use Rattle.model.specs.Books.{WellFormed, WellFormedSheet}
 use Rattle.model.specs.Tests.{NoneIn, tab}
 use Rattle.model.proofs.Firsts.{any-none, lowest-firstIn, lowest-none}
 use Rattle.model.proofs.Tests.{below, either, getD-tab, length-tab}
-use Rattle.book.specs.Blocks.{RightChecks, RightLength, blockCount, wrongLength}
+use Rattle.heads.specs.Blocks.{RightChecks, RightLength, blockCount, wrongLength}
 use Rattle.book.specs.Decoding.{AcceptedWellFormed, bookOf, rowOf, sheetOf}
-use Rattle.book.specs.Heads.{RightHead, columnOf, columnsOf, rowsOf, sheetsOf, valuesOf, widthOf}
+use Rattle.heads.specs.Heads.{RightHead, columnOf, columnsOf, rowsOf, sheetsOf, valuesOf, widthOf}
 use Rattle.book.specs.Rows.{blockOf, blocksNeeded, blocksOf, boundOf, clean, firstBlock, firstFault, placeBound, rowPlace, wrongBlock, wrongByte, wrongSheet}
 use Rattle.book.specs.Verdicts.{Accepted, checkResult, refused}
 use Rattle.book.proofs.Rows.{clean-none, fault-zero, firstBlock-later}
 use Rattle.book.proofs.Verdicts.{result-accepted, result-blocks, result-check, result-field, result-length, result-row, right-length}
-use Rattle.book.proofs.Heads.{column-inside, column-rises, columns-range, rows-most, sheets-most, values-range, width-range}
+use Rattle.heads.proofs.Heads.{column-inside, column-rises, columns-range, rows-most, sheets-most, values-range, width-range}
 
 -- ---- nothing is wrong
 pub record RightBook (b : List ℕ) : Type 0 where

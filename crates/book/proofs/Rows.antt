@@ -12,7 +12,7 @@ use borrow.Author.Tests.{lt-ltb, le-ltb}
 use Rattle.model.specs.Tests.{FirstIn, NoneIn, lowest, sum}
 use Rattle.model.proofs.Firsts.{firstIn-found, firstIn-lowest, firstIn-most, lowest-firstIn, lowest-none, none-lowest}
 use Rattle.model.proofs.Tests.{anyBelow-e, anyBelow-i, below, lowest-le, sum-last}
-use Rattle.book.specs.Heads.{sheetsOf}
+use Rattle.heads.specs.Heads.{sheetsOf}
 use Rattle.book.specs.Rows.{blockOf, blocksOf, clean, faultAt, faultInBlock, faultInSheet, firstBlock, firstFault, wrongBlock, wrongByte, wrongSheet}
 
 -- ---- blocks

@@ -10,11 +10,11 @@ use borrow.Author.Tests.{eqb-true, lt-ltb, le-ltb, eq-eqb, ne-eqb, not-false}
 use Rattle.model.specs.Tests.{FirstIn, lowest}
 use Rattle.model.proofs.Firsts.{firstIn-lowest, none-lowest}
 use Rattle.model.proofs.Tests.{or-false-l, or-false-r}
-use Rattle.book.specs.Blocks.{RightChecks, RightLength, blockCount, firstWrongCheck, wrongCheck, wrongLength}
-use Rattle.book.specs.Heads.{RightHead, columnsOf, firstWrongField, sheetsOf, wrongField}
+use Rattle.heads.specs.Blocks.{RightChecks, RightLength, blockCount, firstWrongCheck, wrongCheck, wrongLength}
+use Rattle.heads.specs.Heads.{RightHead, columnsOf, firstWrongField, sheetsOf, wrongField}
 use Rattle.book.specs.Rows.{RowFault, blockOf, blocksNeeded, clean, fault, firstFault}
 use Rattle.book.specs.Verdicts.{checkResult, numberOf, refused, rowVerdict, verdict}
-use Rattle.book.proofs.Limits.{in-range}
+use Rattle.heads.proofs.Limits.{in-range}
 
 -- a right length is that of 1 to 33 blocks
 pub right-length : (b : List ℕ) → RightLength b → (512 * blockCount b ≡ length b) × (1 ≤ blockCount b) × (blockCount b ≤ 33)

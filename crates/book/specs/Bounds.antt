@@ -8,9 +8,9 @@ use lib.Dec.{eqb, ltb, leb}
 use lib.Bits.{bitOr}
 use lib.ListN.{length}
 use Rattle.model.specs.Masks.{bit}
-use Rattle.book.specs.Blocks.{word}
+use Rattle.heads.specs.Blocks.{word}
 use Rattle.fields.specs.Bytes.{byteAt}
-use Rattle.book.specs.Limits.{setAt}
+use Rattle.heads.specs.Limits.{setAt}
 use Rattle.book.specs.Rows.{blocksOf, firstBlock, placeBound}
 
 -- ---- a block and its bounds

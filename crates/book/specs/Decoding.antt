@@ -6,7 +6,7 @@ use lib.ListN.{length}
 use Rattle.model.specs.Books.{Book, Sheet, WellFormed, columnCount}
 use Rattle.model.specs.Tests.{tab}
 use Rattle.fields.specs.Bytes.{byteAt}
-use Rattle.book.specs.Heads.{columnOf, columnsOf, rowsOf, sheetsOf, valuesOf, widthOf}
+use Rattle.heads.specs.Heads.{columnOf, columnsOf, rowsOf, sheetsOf, valuesOf, widthOf}
 use Rattle.book.specs.Rows.{rowPlace}
 use Rattle.book.specs.Verdicts.{Accepted, checkResult}
 

@@ -5,7 +5,7 @@ use Prim.Native.Nat.{ℕ, _+_, _*_, _/_, _%_}
 use lib.Dec.{ltb, leb}
 use Rattle.model.specs.Tests.{anyBelow, lowest, sum}
 use Rattle.fields.specs.Bytes.{byteAt}
-use Rattle.book.specs.Heads.{columnOf, rowsOf, sheetsOf, valuesOf, widthOf}
+use Rattle.heads.specs.Heads.{columnOf, rowsOf, sheetsOf, valuesOf, widthOf}
 
 -- ---- where rows stand
 -- "Each sheet in turn then has as many blocks as n / 127 rounded up."

@@ -1,24 +1,18 @@
 // book: the format FGB1: the bytes of a fitting book, checked or refused with a number and a place.
 //
 // Promise: `check` returns `checkResult` of the bytes (specs/Verdicts.antt), for every byte string; an accepted book stands for a well-formed
-// one (specs/Decoding.antt). Each field of the head and each kind of fault has a definition and a function of its own.
+// one (specs/Decoding.antt). Blocks, checks and the head are those of crate heads.
 //
-//   block    the 512-byte blocks and their checks
-//   head     block 0: each field and what it must be
-//   limit    what a field must not be
 //   row      the sheets' blocks: how many, and the first with a wrong byte
-pub mod block;
-pub mod head;
-pub mod limit;
 pub mod row;
 
-use crate::block::*;
-use crate::head::*;
 use crate::row::*;
+use heads::block::*;
+use heads::head::*;
 ghost use mathlib.Core.Path.{_≡_};
 ghost use Prim.Native.Nat.{_<_};
-ghost use Rattle.book.specs.Blocks.{RightLength, RightChecks};
-ghost use Rattle.book.specs.Heads.{RightHead};
+ghost use Rattle.heads.specs.Blocks.{RightLength, RightChecks};
+ghost use Rattle.heads.specs.Heads.{RightHead};
 ghost use Rattle.book.specs.Verdicts.{checkResult, refused};
 
 // A refusal and its place as one number.

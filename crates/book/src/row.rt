@@ -7,18 +7,18 @@
 //     row     x0      x1      x2      x3          each below 128, so none carries into the next
 //     slack   128-w   128-x   128-y   128-z
 //     sum     a highest bit is set exactly where the byte is not below its bound
-use crate::block::*;
-use crate::head::*;
-use crate::limit::*;
 use fields::wide32;
 use fields::word_at;
 use fields::word_of;
+use heads::block::*;
+use heads::head::*;
+use heads::limit::*;
 ghost use mathlib.Core.Path.{_≡_};
 ghost use Prim.Native.Nat.{_+_, _*_, _/_, _%_, _-_, _<_, _≤_};
 ghost use lib.ListN.{length};
 ghost use Rattle.model.specs.Tests.{FirstIn, Finds};
-ghost use Rattle.book.specs.Blocks.{word};
-ghost use Rattle.book.specs.Heads.{sheetsOf, RightHead};
+ghost use Rattle.heads.specs.Blocks.{word};
+ghost use Rattle.heads.specs.Heads.{sheetsOf, RightHead};
 ghost use Rattle.book.specs.Rows.{blocksOf, firstBlock, blocksNeeded, placeBound, wrongBlock, firstFault, blockOf};
 ghost use Rattle.book.specs.Bounds.{usedRows, wrongIn, overBounds, RowBounds, SmallBounds, SheetThere, BoundedSheet, joined, belowBounds, anyHigh, raisedRow};
 

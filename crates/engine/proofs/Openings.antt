@@ -11,25 +11,25 @@ use lib.ListN.{getD, length, length-replicate, length-set, replicate, set}
 use lib.Pow.{pow-mono}
 use lib.Seq.{ext-getD, getD-set-other, getD-set-same}
 use borrow.Author.Tests.{le-ltb, lt-ltb, ltb-true}
-use Rattle.model.specs.Books.{closure, columnCount}
+use Rattle.model.specs.Books.{closure, columnCount, sheetAt}
 use Rattle.model.specs.Masks.{bit, maskOf}
 use Rattle.model.specs.Orders.{allowed, domains, permits}
-use Rattle.model.specs.States.{StateHolds, StateOf, ofSheet, sheetAt, validRow}
+use Rattle.model.specs.States.{StateHolds, StateOf, ofSheet, validRow}
 use Rattle.model.specs.Stores.{has, storeOf}
-use Rattle.model.proofs.Masks.{bit-maskOf, bit-maskOf-out, bit-of-zero, mask-ext, maskOf-lt, maskOf-same}
+use Rattle.model.proofs.Masks.{bit-maskOf, bit-maskOf-out, bit-of-zero, mask-ext, maskOf-lt, maskOf-same, ones32, ones64}
 use Rattle.model.proofs.Rows.{word-same}
 use Rattle.model.proofs.Tests.{and-true, below, getD-tab, length-tab, same-test}
 use Rattle.book.specs.Decoding.{bookOf}
-use Rattle.book.specs.Heads.{columnOf, columnsOf, rowsOf, sheetsOf, valuesOf}
+use Rattle.heads.specs.Heads.{columnOf, columnsOf, rowsOf, sheetsOf, valuesOf}
 use Rattle.book.specs.Verdicts.{Accepted}
 use Rattle.book.proofs.Decoding.{RightBook, accepted-right}
-use Rattle.book.proofs.Heads.{column-inside, rows-most, sheets-most, values-range}
+use Rattle.heads.proofs.Heads.{column-inside, rows-most, sheets-most, values-range}
 use Rattle.words.specs.Sheets.{AtSheet, IndexOf, firstByte, valueAt}
 use Rattle.words.proofs.Indexes.{of-set-other, of-set-same, set-below}
-use Rattle.words.proofs.Ones.{ones-bit, ones-shifted}
+use Rattle.cells.proofs.Ones.{ones-bit, ones-shifted}
 use Rattle.words.proofs.Places.{cell-value, valid-e, valid-i}
 use Rattle.engine.specs.Openings.{FullDomains, FullIndex, FullRows, FullWord, FullWords, SixtyFour, placesBelow}
-use Rattle.engine.specs.Propagation.{Ready, Settled, arrays, storeIn}
+use Rattle.engine.specs.Propagation.{Ready, Propagated, arrays, storeIn}
 use Rattle.engine.proofs.Propagation.{at-sheet, columns-count, count-at}
 use Rattle.engine.proofs.Worklists.{eight-sheets, zeros-at}
 
@@ -40,10 +40,10 @@ places-none =
     mask-ext 32 (maskOf 32 (λ v. ltb v 0)) 0 (maskOf-lt 32 (λ v. ltb v 0)) (omega arith)
     (λ v l. bit-maskOf 32 (λ v. ltb v 0) v l ∙ le-ltb v 0 (omega arith) ∙ sym (bit-of-zero v))
 
-pub places-shifted : (n : ℕ) → n ≤ 32 → 4294967295 / 2 ^ (32 - n) ≡ placesBelow n
+pub places-shifted : (n : ℕ) → n ≤ 32 → ones32 / 2 ^ (32 - n) ≡ placesBelow n
 unfolding placesBelow
 places-shifted n l =
-    mask-ext 32 (4294967295 / 2 ^ (32 - n)) (maskOf 32 (λ v. ltb v n)) (lt-of-le-of-lt (div-le-self 4294967295 (2 ^ (32 - n))) (omega arith)) (maskOf-lt 32 (λ v. ltb v n))
+    mask-ext 32 (ones32 / 2 ^ (32 - n)) (maskOf 32 (λ v. ltb v n)) (lt-of-le-of-lt (div-le-self ones32 (2 ^ (32 - n))) (omega arith)) (maskOf-lt 32 (λ v. ltb v n))
     (λ v q. ones-shifted 32 n v l ∙ sym (bit-maskOf 32 (λ v. ltb v n) v q))
 
 pub places-bit : (n v : ℕ) → n ≤ 32 → bit v (placesBelow n) ≡ ltb v n
@@ -91,15 +91,15 @@ domains-more {b} {n} {d} {D} h l e =
 
 -- ---- words
 module _ {n w : ℕ} where
-  pub word-all : 64 * w + 64 ≤ n → FullWord n w 18446744073709551615
+  pub word-all : 64 * w + 64 ≤ n → FullWord n w ones64
   word-all l = record { at = λ k q. ones-bit 64 k q ∙ sym (lt-ltb (64 * w + k) n (omega arith)); fits = omega arith }
 
-  pub word-some : 64 * w < n → n < 64 * w + 64 → FullWord n w (18446744073709551615 / 2 ^ (64 * w + 64 - n))
+  pub word-some : 64 * w < n → n < 64 * w + 64 → FullWord n w (ones64 / 2 ^ (64 * w + 64 - n))
   word-some l m = record {
     at = λ k q.
         let e : 64 * w + 64 - n ≡ 64 - (n - 64 * w) = omega arith in
-        ap (λ (j : ℕ). bit k (18446744073709551615 / 2 ^ j)) e ∙ ones-shifted 64 (n - 64 * w) k (omega arith) ∙ moved k (below k (n - 64 * w));
-    fits = lt-of-le-of-lt (div-le-self 18446744073709551615 (2 ^ (64 * w + 64 - n))) (omega arith);
+        ap (λ (j : ℕ). bit k (ones64 / 2 ^ j)) e ∙ ones-shifted 64 (n - 64 * w) k (omega arith) ∙ moved k (below k (n - 64 * w));
+    fits = lt-of-le-of-lt (div-le-self ones64 (2 ^ (64 * w + 64 - n))) (omega arith);
   }
     where
       moved : (k : ℕ) → (k < n - 64 * w) ⊎ (n - 64 * w ≤ k) → ltb k (n - 64 * w) ≡ ltb (64 * w + k) n
@@ -281,7 +281,7 @@ module _ (b : List ℕ) (acc : Accepted b) {D W X N : List ℕ} (hd : FullDomain
       ∙ maskOf-same 32 _ _ (λ v m. sym (and-true (ltb v (valuesOf b c))) ∙ ap (λ (n : ℕ). ltb v n && true) (sym (count-at b c k)))
       ∙ sym (getD-tab 0 (columnCount (bookOf b)) _ c (omega (arith, columns-count b))))
 
-  pub opening-state : {D′ W′ X′ N′ : List ℕ} → Settled b D D′ W′ X′ N′ → StateHolds (bookOf b) [] (arrays D′ W′ X′ N′)
+  pub opening-state : {D′ W′ X′ N′ : List ℕ} → Propagated b D D′ W′ X′ N′ → StateHolds (bookOf b) [] (arrays D′ W′ X′ N′)
   unfolding domains
   opening-state {D′} {W′} {X′} {N′} h =
       subst (λ (A : List ℕ). StateOf (bookOf b) (closure (bookOf b) A) (arrays D′ W′ X′ N′)) full-allowed (h .state)

@@ -10,11 +10,11 @@ use lib.Dec.{eqb}
 use lib.ListN.{getD, getD-replicate, length, length-replicate, replicate, set}
 use lib.Seq.{ext-getD, getD-set-other}
 use borrow.Author.Tests.{eq-eqb, eqb-false, eqb-true, ne-eqb}
-use Rattle.model.specs.Books.{ConsistentStore, Sheet, closure, columnCount, supported, supportedIn}
+use Rattle.model.specs.Books.{ConsistentStore, Sheet, closure, columnCount, supported, supportedIn, sheetAt}
 use Rattle.model.specs.Choices.{pick}
 use Rattle.model.specs.Closure.{Between, Consistent}
 use Rattle.model.specs.Masks.{Cleared, bit}
-use Rattle.model.specs.States.{Indexed, StateOf, sheetAt, ofSheet, validRow, validWord}
+use Rattle.model.specs.States.{Indexed, StateOf, ofSheet, validRow, validWord}
 use Rattle.model.specs.Stores.{IsStore, Within, emptyStore, has, values}
 use Rattle.model.proofs.Books.{closed-or-empty, consistent-from, supported-mono, supportedIn-mono, supportedIn-same}
 use Rattle.model.proofs.Choices.{pick-same}
@@ -24,14 +24,14 @@ use Rattle.model.proofs.Rows.{words-same, word-same}
 use Rattle.model.proofs.Stores.{in-store, within-trans, empty-has, empty-store}
 use Rattle.model.proofs.Tests.{allIn-e, allIn-i, and-i, and-r, below, either, getD-tab, getD-tab-out, length-tab, or-e, or-false-l, or-false-r}
 use Rattle.book.specs.Decoding.{bookOf, sheetOf}
-use Rattle.book.specs.Heads.{columnOf, columnsOf, sheetsOf, valuesOf, widthOf}
+use Rattle.heads.specs.Heads.{columnOf, columnsOf, sheetsOf, valuesOf, widthOf}
 use Rattle.book.specs.Verdicts.{Accepted}
 use Rattle.book.proofs.Decoding.{RightBook, accepted-right, tab-mem}
 use Rattle.words.specs.Looks.{Revised, Seen, SheetKnown}
 use Rattle.words.specs.Sheets.{AtSheet, IndexOf, Loses, OnlySheet, Sized, firstByte, valueAt}
 use Rattle.words.proofs.Places.{column-value, columns-size, formed, sheet-at, sheet-in, width-most, valid-e}
 use Rattle.engine.specs.Layouts.{LayoutOf}
-use Rattle.engine.specs.Propagation.{Propagated, Ready, arrays, closureIn, storeIn, Settled}
+use Rattle.engine.specs.Propagation.{Fixpoint, Ready, arrays, closureIn, storeIn, Propagated}
 use Rattle.engine.specs.Worklists.{Woken, touches}
 use Rattle.engine.proofs.Worklists.{eight-sheets, touched-sheet, untouched-column, woken-same, zeros-at}
 
@@ -240,7 +240,7 @@ module _ (b : List ℕ) (acc : Accepted b) where
               let u = supportedIn-mono (closureIn b D₀) D (h .between .lower) column (v .0) sheet (allIn-e (bookOf b .sheets) (supportedIn (closureIn b D₀) column (v .0)) t sheet (sheet-in a)) in
               absurd (false≢true (sym (r .failed z 0 (v .0) (width-most a .0)) ∙ ap (λ (k : ℕ). supportedIn D k (v .0) sheet) (sym (column-value a 0 (width-most a .0))) ∙ u))
 
-      pub going-failed : satisfied ≡ false → Propagated b D₀ D′ W′ X′ N′ false
+      pub going-failed : satisfied ≡ false → Fixpoint b D₀ D′ W′ X′ N′ false
       going-failed z = record {
         store = r .loses .store;
         sized = r .sized;
@@ -392,7 +392,7 @@ module _ (b : List ℕ) (acc : Accepted b) where
             indexed = λ s l. h .sheet s (omega (arith, sheets-count b)) .seen .indexed;
           })
 
-      pub going-done : Propagated b D₀ D W X N true
+      pub going-done : Fixpoint b D₀ D W X N true
       going-done = record {
         store = h .store;
         sized = h .sized;
@@ -460,6 +460,6 @@ module _ (b : List ℕ) (acc : Accepted b) where
     nonzero = length-replicate {A = ℕ} 8 0;
   }
 
-  pub settled-failed : {D E W X N : List ℕ} → Propagated b D E W X N false → Settled b D (replicate 16 0) (replicate 64 0) X (replicate 8 0)
-  settled-failed {D} {E} {W} {X} {N} h =
+  pub propagated-failed : {D E W X N : List ℕ} → Fixpoint b D E W X N false → Propagated b D (replicate 16 0) (replicate 64 0) X (replicate 8 0)
+  propagated-failed {D} {E} {W} {X} {N} h =
       record { store = empty-domains; sized = empty-sized (h .sized); state = rw (h .failed refl) (empty-state W X N (h .indexed)) }

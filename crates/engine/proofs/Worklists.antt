@@ -15,18 +15,18 @@ use lib.Pow.{pow-lt}
 use lib.Seq.{getD-set-other, getD-set-same}
 use borrow.Author.Tests.{eqb-false, eqb-true, le-ltb, lt-ltb}
 use Rattle.model.specs.Masks.{bit}
-use Rattle.model.proofs.Masks.{bit-and, bit-of-zero, bit-or, bit-pow, bit-pow-only, bit-pow-other, mask-ext}
+use Rattle.model.proofs.Masks.{bit-and, bit-of-zero, bit-or, bit-pow, bit-pow-only, bit-pow-other, mask-ext, ones32}
 use Rattle.model.proofs.Tests.{and-false, and-i, and-true, below, either, or-e, or-l, or-r}
-use Rattle.book.specs.Heads.{columnOf, columnsOf, rowsOf, sheetsOf, valuesOf, widthOf}
+use Rattle.heads.specs.Heads.{columnOf, columnsOf, rowsOf, sheetsOf, valuesOf, widthOf}
 use Rattle.book.specs.Rows.{blocksNeeded, blocksOf}
 use Rattle.book.specs.Verdicts.{Accepted}
 use Rattle.book.proofs.Decoding.{accepted-right}
 use Rattle.book.proofs.Rows.{firstBlock-later, firstBlock-more, firstBlock-zero}
 use Rattle.book.proofs.Verdicts.{right-length}
-use Rattle.book.proofs.Heads.{columns-range, rows-most, sheets-most, values-range}
+use Rattle.heads.proofs.Heads.{columns-range, rows-most, sheets-most, values-range}
 use Rattle.words.specs.Sheets.{firstByte}
-use Rattle.words.proofs.Ones.{complement}
-use Rattle.words.proofs.Walks.{shifted-one}
+use Rattle.cells.proofs.Ones.{complement}
+use Rattle.cells.proofs.Walks.{shifted-one}
 use Rattle.engine.specs.Layouts.{ColumnsIn, LayoutOf}
 use Rattle.engine.specs.Worklists.{Added, WaitingFor, Woken, touches, waitsBit}
 
@@ -139,9 +139,9 @@ laid-more {b} {n} {at} {m} {begins} {scopes} h l e k =
     columns s (inl p) q = rw (getD-set-other scopes n s m 0 (λ z. omega arith)) (h .columns s p)
     columns s (inr p) q = let z : s ≡ n = omega arith in rw (z, getD-set-same scopes n m 0 (omega (arith, h .scopes-size))) k
 
-pub laid-end : {b : List ℕ} {n : ℕ} {begins scopes : List ℕ} → n ≡ sheetsOf b → LaidTo b n begins scopes → LayoutOf b begins scopes
-laid-end e h =
-    record { starts = λ s l. h .starts s (omega arith); columns = λ s l. h .columns s (omega arith); past = λ s l. h .past s (omega arith) }
+pub laid-end : {b : List ℕ} {n : ℕ} {begins scopes : List ℕ} → Accepted b → n ≡ sheetsOf b → LaidTo b n begins scopes → LayoutOf b begins scopes
+laid-end acc e h =
+    record { accepted = acc; starts = λ s l. h .starts s (omega arith); columns = λ s l. h .columns s (omega arith); past = λ s l. h .past s (omega arith) }
 
 -- another number than n is below n + 1 exactly when it is below n
 ltb-next : (f n : ℕ) → (f ≡ n → ⊥) → ltb f n ≡ ltb f (n + 1)
@@ -213,9 +213,9 @@ module _ {M G : List ℕ} {s waiting : ℕ} (small : waiting < 256) (size : leng
       go f (inr e) = rw (e, or-zero-r (getD G f 0)) refl
 
   pub woken-some : {lost w one : ℕ} {G′ : List ℕ} → s < 8 → Added G lost 8 G′ → WaitingFor M lost 8 w → one ≡ (1 * 2 ^ s) % 2 ^ 32
-      → Woken M s lost G waiting (set G′ s 0) (bitOr waiting (bitAnd w (4294967295 - one)))
+      → Woken M s lost G waiting (set G′ s 0) (bitOr waiting (bitAnd w (ones32 - one)))
   woken-some {lost} {w} {one} {G′} l a h e = record {
-    small = or-lt 8 waiting (bitAnd w (4294967295 - one)) small (lt-of-le-of-lt (and-le-l w (4294967295 - one)) (h .small));
+    small = or-lt 8 waiting (bitAnd w (ones32 - one)) small (lt-of-le-of-lt (and-le-l w (ones32 - one)) (h .small));
     size = length-set G′ s 0 ∙ a .size;
     waits = λ f k. bit-or f waiting _ ∙ ap (λ (t : Bool). bit f waiting || t) (bit-and f w _ ∙ waits f k (either (eqb f s)));
     changed = λ f k. changed f k (either (eqb f s));
@@ -224,11 +224,11 @@ module _ {M G : List ℕ} {s waiting : ℕ} (small : waiting < 256) (size : leng
       is-one : one ≡ 2 ^ s
       is-one = e ∙ shifted-one 32 s (omega arith)
 
-      not-s : (f : ℕ) → f < 8 → bit f (4294967295 - one) ≡ not (bit f (2 ^ s))
+      not-s : (f : ℕ) → f < 8 → bit f (ones32 - one) ≡ not (bit f (2 ^ s))
       not-s f k = rw is-one (complement 32 (2 ^ s) f (pow-lt (let k : s < 32 = omega arith in k)) (omega arith))
 
       waits : (f : ℕ) → f < 8 → (eqb f s ≡ true) ⊎ (eqb f s ≡ false)
-          → (bit f w && bit f (4294967295 - one)) ≡ (not (eqb f s) && touches (getD M f 0) lost)
+          → (bit f w && bit f (ones32 - one)) ≡ (not (eqb f s) && touches (getD M f 0) lost)
       waits f k (inl p) =
           let z = eqb-true f s p in rw (not-s f k, p, z, bit-pow s) (and-false (bit s w))
       waits f k (inr p) =

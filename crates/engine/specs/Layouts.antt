@@ -7,7 +7,8 @@ use mathlib.Core.List.{List}
 use Prim.Native.Nat.{ℕ, _≤_, _<_}
 use lib.ListN.{getD}
 use Rattle.model.specs.Masks.{bit}
-use Rattle.book.specs.Heads.{columnOf, sheetsOf, widthOf}
+use Rattle.heads.specs.Heads.{columnOf, sheetsOf, widthOf}
+use Rattle.book.specs.Verdicts.{Accepted}
 use Rattle.words.specs.Sheets.{firstByte}
 
 -- m has the columns of sheet s, and no other
@@ -15,8 +16,9 @@ pub record ColumnsIn (b : List ℕ) (s m : ℕ) : Type 0 where
   pub all : (j : ℕ) → j < widthOf b s → bit (columnOf b s j) m ≡ true
   pub only : (c : ℕ) → bit c m ≡ true → (j : ℕ) × (j < widthOf b s) × (columnOf b s j ≡ c)
 
--- where the rows of each sheet begin, and its columns; nothing past the last sheet
+-- the layout of an accepted book: where the rows of each sheet begin, and its columns; nothing past the last sheet
 pub record LayoutOf (b begins scopes : List ℕ) : Type 0 where
+  pub accepted : Accepted b
   pub starts : (s : ℕ) → s < sheetsOf b → getD begins s 0 ≡ firstByte b s
   pub columns : (s : ℕ) → s < sheetsOf b → ColumnsIn b s (getD scopes s 0)
   pub past : (s : ℕ) → sheetsOf b ≤ s → getD scopes s 0 ≡ 0

@@ -6,7 +6,7 @@ use lib.Dec.{ltb}
 use lib.ListN.{length, getD}
 use Rattle.model.specs.Masks.{bit, maskOf}
 use Rattle.model.specs.States.{ofSheet}
-use Rattle.book.specs.Heads.{rowsOf, valuesOf}
+use Rattle.heads.specs.Heads.{rowsOf, valuesOf}
 
 -- the mask of the places below n
 unfoldable pub placesBelow : ℕ → ℕ

@@ -10,7 +10,7 @@ use Rattle.model.specs.Masks.{bit, size}
 use Rattle.model.specs.Stores.{has, IsStore, emptyStore}
 use Rattle.model.specs.Books.{closure, columnCount}
 use Rattle.model.specs.States.{Arrays, StateOf}
-use Rattle.book.specs.Heads.{columnOf, columnsOf, sheetsOf, widthOf}
+use Rattle.heads.specs.Heads.{columnOf, columnsOf, sheetsOf, widthOf}
 use Rattle.book.specs.Decoding.{bookOf}
 use Rattle.words.specs.Looks.{SheetKnown}
 use Rattle.words.specs.Sheets.{Sized, IndexOf}
@@ -45,7 +45,7 @@ pub record Ready (b : List ℕ) (opening : Bool) (waiting column : ℕ) (D W X N
   pub small : waiting < 256
 
 -- the arrays are the state of the closure of D, which has no empty column, or the closure is empty
-pub record Propagated (b D D′ W′ X′ N′ : List ℕ) (r : Bool) : Type 0 where
+pub record Fixpoint (b D D′ W′ X′ N′ : List ℕ) (r : Bool) : Type 0 where
   pub store : IsStore 16 D′
   pub sized : Sized W′ X′ N′
   pub state : r ≡ true → StateOf (bookOf b) (closureIn b D) (arrays D′ W′ X′ N′)
@@ -54,7 +54,7 @@ pub record Propagated (b D D′ W′ X′ N′ : List ℕ) (r : Bool) : Type 0 w
   pub indexed : (s : ℕ) → s < sheetsOf b → IndexOf s W′ X′ N′
 
 -- the arrays are the state of the closure of D
-pub record Settled (b D D′ W′ X′ N′ : List ℕ) : Type 0 where
+pub record Propagated (b D D′ W′ X′ N′ : List ℕ) : Type 0 where
   pub store : IsStore 16 D′
   pub sized : Sized W′ X′ N′
   pub state : StateOf (bookOf b) (closureIn b D) (arrays D′ W′ X′ N′)

@@ -3,7 +3,7 @@ ghost use mathlib.Core.Path.{_≡_};
 ghost use Prim.Native.Nat.{_+_, _*_, _<_};
 ghost use lib.ListN.{replicate};
 ghost use Rattle.book.specs.Verdicts.{Accepted};
-ghost use Rattle.book.specs.Heads.{sheetsOf};
+ghost use Rattle.heads.specs.Heads.{sheetsOf};
 ghost use Rattle.engine.specs.Layouts.{ColumnsIn, LayoutOf};
 
 // The columns of sheet s as a mask.
@@ -11,11 +11,11 @@ fn columns_of(book: &[u8], s: usize) -> u32
     requires { ⌜ Accepted (now book) × (s < sheetsOf (now book)) ⌝ }
     ensures { λ r. ⌜ ColumnsIn (now (book .entry)) s r ⌝ }
 {
-    let k = book::head::width(book, s);
+    let k = heads::head::width(book, s);
     let mut out: u32 = 0;
     let mut j: usize = 0;
     while j < k {
-        out = out | (1u32 << book::head::column(book, s, j));
+        out = out | (1u32 << heads::head::column(book, s, j));
         j += 1;
     }
     out
@@ -26,7 +26,7 @@ pub fn lay_out(book: &[u8], begins: &mut [usize; 8], scopes: &mut [u32; 8])
     requires { ⌜ Accepted (now book) × (now begins ≡ replicate 8 0) × (now scopes ≡ replicate 8 0) ⌝ }
     ensures { λ r. ⌜ LayoutOf (now (book .entry)) (now (begins .exit)) (now (scopes .exit)) ⌝ }
 {
-    let n = book::head::sheets(book);
+    let n = heads::head::sheets(book);
     let mut at: usize = 512;
     let mut s: usize = 0;
     while s < n {

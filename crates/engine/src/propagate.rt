@@ -3,13 +3,12 @@ use crate::worklist::*;
 ghost use mathlib.Core.Path.{_≡_};
 ghost use mathlib.Core.Bool.{true, false};
 ghost use lib.ListN.{replicate};
-ghost use Rattle.book.specs.Verdicts.{Accepted};
 ghost use Rattle.engine.specs.Layouts.{LayoutOf};
-ghost use Rattle.engine.specs.Propagation.{Ready, Propagated, Settled};
+ghost use Rattle.engine.specs.Propagation.{Ready, Fixpoint, Propagated};
 
 // The sheets in `waiting` are looked at, of whose columns those in `column` lost values; at the opening none has been looked at.
 // Whether a store is left: a sheet that cannot be satisfied fails it.
-pub fn propagate(
+pub fn fixpoint(
     book: &[u8],
     begins: &[usize; 8],
     scopes: &[u32; 8],
@@ -21,8 +20,8 @@ pub fn propagate(
     index: &mut [u8; 64],
     nonzero: &mut [u8; 8],
 ) -> bool
-    requires { ⌜ Accepted (now book) × LayoutOf (now book) (now begins) (now scopes) × Ready (now book) opening waiting column (now dom) (now valid) (now index) (now nonzero) ⌝ }
-    ensures { λ r. ⌜ Propagated (now (book .entry)) (now (dom .entry)) (now (dom .exit)) (now (valid .exit)) (now (index .exit)) (now (nonzero .exit)) r ⌝ }
+    requires { ⌜ LayoutOf (now book) (now begins) (now scopes) × Ready (now book) opening waiting column (now dom) (now valid) (now index) (now nonzero) ⌝ }
+    ensures { λ r. ⌜ Fixpoint (now (book .entry)) (now (dom .entry)) (now (dom .exit)) (now (valid .exit)) (now (index .exit)) (now (nonzero .exit)) r ⌝ }
 {
     let mut changed = [column; 8];
     let mut left = waiting;
@@ -47,7 +46,7 @@ pub fn propagate(
         left = wake(
             scopes,
             &mut changed,
-            words::bits::others(left),
+            cells::bits::others(left),
             s,
             look.lost,
         );
@@ -65,7 +64,7 @@ fn empty(dom: &mut [u32; 16], valid: &mut [u64; 64], nonzero: &mut [u8; 8])
 }
 
 // The same; a failed store is emptied.
-pub fn settle(
+pub fn propagate(
     book: &[u8],
     begins: &[usize; 8],
     scopes: &[u32; 8],
@@ -77,10 +76,10 @@ pub fn settle(
     index: &mut [u8; 64],
     nonzero: &mut [u8; 8],
 )
-    requires { ⌜ Accepted (now book) × LayoutOf (now book) (now begins) (now scopes) × Ready (now book) opening waiting column (now dom) (now valid) (now index) (now nonzero) ⌝ }
-    ensures { λ r. ⌜ Settled (now (book .entry)) (now (dom .entry)) (now (dom .exit)) (now (valid .exit)) (now (index .exit)) (now (nonzero .exit)) ⌝ }
+    requires { ⌜ LayoutOf (now book) (now begins) (now scopes) × Ready (now book) opening waiting column (now dom) (now valid) (now index) (now nonzero) ⌝ }
+    ensures { λ r. ⌜ Propagated (now (book .entry)) (now (dom .entry)) (now (dom .exit)) (now (valid .exit)) (now (index .exit)) (now (nonzero .exit)) ⌝ }
 {
-    if propagate(
+    if fixpoint(
         book,
         begins,
         scopes,

@@ -17,10 +17,10 @@ ghost use Prim.Native.Nat.{_+_, _*_, _<_, _≤_};
 ghost use lib.Bits.{bitAnd};
 ghost use lib.ListN.{getD, replicate};
 ghost use Rattle.book.specs.Verdicts.{Accepted};
-ghost use Rattle.book.specs.Heads.{columnsOf, sheetsOf};
+ghost use Rattle.heads.specs.Heads.{columnsOf, sheetsOf};
 ghost use Rattle.engine.specs.Layouts.{LayoutOf};
 ghost use Rattle.engine.specs.Openings.{placesBelow, FullDomains, FullWord, SixtyFour, FullWords, FullRows, FullIndex};
-ghost use Rattle.engine.specs.Sessions.{StateIs, SomeState, Emptied, Narrows};
+ghost use Rattle.engine.specs.States.{StateIs, SomeState, Emptied, Narrows};
 
 pub struct State {
     pub dom: [u32; 16],
@@ -48,10 +48,10 @@ fn fill_domains(book: &[u8], dom: &mut [u32; 16])
     requires { ⌜ Accepted (now book) × (now dom ≡ replicate 16 0) ⌝ }
     ensures { λ r. ⌜ FullDomains (now (book .entry)) (columnsOf (now (book .entry))) (now (dom .exit)) ⌝ }
 {
-    let n = book::head::columns(book);
+    let n = heads::head::columns(book);
     let mut c: usize = 0;
     while c < n {
-        dom[c] = places_below(book::head::values(book, c));
+        dom[c] = places_below(heads::head::values(book, c));
         c += 1;
     }
 }
@@ -88,10 +88,10 @@ fn fill_rows(book: &[u8], valid: &mut [u64; 64], nonzero: &mut [u8; 8])
     requires { ⌜ Accepted (now book) × (now valid ≡ replicate 64 0) × (now nonzero ≡ replicate 8 0) ⌝ }
     ensures { λ r. ⌜ FullRows (now (book .entry)) (sheetsOf (now (book .entry))) (now (valid .exit)) (now (nonzero .exit)) ⌝ }
 {
-    let n = book::head::sheets(book);
+    let n = heads::head::sheets(book);
     let mut s: usize = 0;
     while s < n {
-        let rows = book::head::rows(book, s);
+        let rows = heads::head::rows(book, s);
         fill_words(valid, s, rows);
         nonzero[s] = ((rows + 63) / 64) as u8;
         s += 1;
@@ -112,7 +112,7 @@ fn fill_index(index: &mut [u8; 64])
 
 // The state of the empty trail.
 pub fn opening(book: &[u8], begins: &[usize; 8], scopes: &[u32; 8]) -> State
-    requires { ⌜ Accepted (now book) × LayoutOf (now book) (now begins) (now scopes) ⌝ }
+    requires { ⌜ LayoutOf (now book) (now begins) (now scopes) ⌝ }
     ensures { λ r. ⌜ StateIs (now (book .entry)) [] r ⌝ }
 {
     let mut dom = [0u32; 16];
@@ -122,8 +122,8 @@ pub fn opening(book: &[u8], begins: &[usize; 8], scopes: &[u32; 8]) -> State
     fill_domains(book, &mut dom);
     fill_rows(book, &mut valid, &mut nonzero);
     fill_index(&mut index);
-    let waiting = places_below(book::head::sheets(book));
-    settle(
+    let waiting = places_below(heads::head::sheets(book));
+    propagate(
         book,
         begins,
         scopes,
@@ -166,7 +166,7 @@ impl State {
         c: usize,
         m: u32,
     ) -> State
-        requires { ⌜ Accepted (now book) × LayoutOf (now book) (now begins) (now scopes) × (c < columnsOf (now book)) × SomeState (now book) self × (0 < bitAnd (getD (self .dom) c 0) m) ⌝ }
+        requires { ⌜ LayoutOf (now book) (now begins) (now scopes) × (c < columnsOf (now book)) × SomeState (now book) self × (0 < bitAnd (getD (self .dom) c 0) m) ⌝ }
         ensures { λ r. ⌜ Narrows (now (book .entry)) c m self r ⌝ }
     {
         let mut dom = self.dom;
@@ -176,7 +176,7 @@ impl State {
         let mut index = self.index;
         let mut nonzero = self.nonzero;
         let column = 1u32 << c;
-        settle(
+        propagate(
             book,
             begins,
             scopes,
@@ -205,7 +205,7 @@ impl State {
         c: usize,
         m: u32,
     ) -> State
-        requires { ⌜ Accepted (now book) × LayoutOf (now book) (now begins) (now scopes) × (c < columnsOf (now book)) × SomeState (now book) self ⌝ }
+        requires { ⌜ LayoutOf (now book) (now begins) (now scopes) × (c < columnsOf (now book)) × SomeState (now book) self ⌝ }
         ensures { λ r. ⌜ Narrows (now (book .entry)) c m self r ⌝ }
     {
         let dom = self.dom;

@@ -6,9 +6,9 @@ use Prim.Native.Nat.{ℕ, _/_, _≤_, _<_}
 use lib.ListN.{length, List·getD-eq-default}
 use borrow.Author.Tests.{lt-ltb, le-ltb}
 use Rattle.model.proofs.Tests.{below}
-use Rattle.book.specs.Heads.{columnsOf}
+use Rattle.heads.specs.Heads.{columnsOf}
 use Rattle.book.proofs.Decoding.{accepted-right}
-use Rattle.book.proofs.Heads.{columns-range}
+use Rattle.heads.proofs.Heads.{columns-range}
 use Rattle.fit.specs.Prints.{columnsShown, runText}
 use Rattle.lines.specs.Texts.{printed}
 use Rattle.lines.proofs.Writing.{printed-refused}

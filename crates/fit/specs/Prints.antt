@@ -4,7 +4,7 @@ use mathlib.Core.List.{List}
 use Prim.Native.Nat.{ℕ, _/_}
 use lib.Dec.{ltb}
 use lib.ListN.{length}
-use Rattle.book.specs.Heads.{columnsOf}
+use Rattle.heads.specs.Heads.{columnsOf}
 use Rattle.lines.specs.Texts.{printed}
 use Rattle.runs.specs.Results.{runResult, runSpace}
 

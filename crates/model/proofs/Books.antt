@@ -14,7 +14,7 @@ use Rattle.model.specs.Tests.{anyIn}
 use Rattle.model.specs.Stores.{has, Within, IsStore, storeOf, emptyStore}
 use Rattle.model.specs.Closure.{Monotone, Consistent, closureOf}
 use Rattle.model.specs.Choices.{pick, anyChoice}
-use Rattle.model.specs.Books.{Sheet, Book, columnCount, matches, rowMatches, allows, WellFormedSheet, WellFormed, Support, ConsistentStore, Stays, Fails, carries, supportedIn, supported, closure}
+use Rattle.model.specs.Books.{Sheet, Book, columnCount, matches, rowMatches, allows, WellFormedSheet, WellFormed, Support, ConsistentStore, Stays, Fails, supports, supportedIn, supported, closure}
 use Rattle.model.proofs.Tests.{and-l, and-r, and-i, or-e, or-l, or-r, either, allIn-mono, allIn-e, allIn-i, anyIn-e, anyIn-i, below}
 use Rattle.model.proofs.Masks.{bit-pow, bit-pow-only}
 use Rattle.model.proofs.Stores.{has-i, has-e, is-store, in-store, within-trans}
@@ -26,8 +26,8 @@ pub supportedIn-mono : (B A : List ℕ) → Within B A → (c v : ℕ) (s : Shee
 unfolding supportedIn
 supportedIn-mono B A w c v s e = go (or-e (not (anyIn (s .columns) (eqb c))) _ e)
   where
-    go : (not (anyIn (s .columns) (eqb c)) ≡ true) ⊎ (anyChoice (pick B (s .columns)) (λ t. allows s t && carries (s .columns) t c v) ≡ true)
-        → (not (anyIn (s .columns) (eqb c)) || anyChoice (pick A (s .columns)) (λ t. allows s t && carries (s .columns) t c v)) ≡ true
+    go : (not (anyIn (s .columns) (eqb c)) ≡ true) ⊎ (anyChoice (pick B (s .columns)) (λ t. allows s t && supports (s .columns) t c v) ≡ true)
+        → (not (anyIn (s .columns) (eqb c)) || anyChoice (pick A (s .columns)) (λ t. allows s t && supports (s .columns) t c v)) ≡ true
     go (inl p) = or-l _ _ p
     go (inr q) =
         or-r (not (anyIn (s .columns) (eqb c))) _
@@ -37,7 +37,7 @@ supportedIn-mono B A w c v s e = go (or-e (not (anyIn (s .columns) (eqb c))) _ e
 pub supportedIn-same : (B A : List ℕ) (s : Sheet) → pick B (s .columns) ≡ pick A (s .columns) → (c v : ℕ) → supportedIn B c v s ≡ supportedIn A c v s
 unfolding supportedIn
 supportedIn-same B A s e c v =
-    ap (λ (P : List ℕ). not (anyIn (s .columns) (eqb c)) || anyChoice P (λ t. allows s t && carries (s .columns) t c v)) e
+    ap (λ (P : List ℕ). not (anyIn (s .columns) (eqb c)) || anyChoice P (λ t. allows s t && supports (s .columns) t c v)) e
 
 pub supported-mono : (b : Book) → Monotone (columnCount b) (supported b)
 unfolding supported
@@ -71,25 +71,25 @@ place-or-none cs c = go (either (anyIn cs (eqb c)))
     go (inl e) = inl (place cs c e)
     go (inr e) = inr (λ i l q. true≢false (sym (placed cs i l) ∙ ap (λ (k : ℕ). anyIn cs (eqb k)) q ∙ e))
 
-carries-e : (ks r : List ℕ) (c v : ℕ) → carries ks r c v ≡ true → (i : ℕ) × (i < length ks) × (getD ks i 0 ≡ c) × (getD r i 0 ≡ v)
-unfolding carries
-carries-e [] r c v e = absurd (false≢true e)
-carries-e (k ∷ ks) [] c v e = absurd (false≢true e)
-carries-e (k ∷ ks) (x ∷ xs) c v e = go (or-e (eqb k c && eqb x v) _ e) (carries-e ks xs c v)
+supports-e : (ks r : List ℕ) (c v : ℕ) → supports ks r c v ≡ true → (i : ℕ) × (i < length ks) × (getD ks i 0 ≡ c) × (getD r i 0 ≡ v)
+unfolding supports
+supports-e [] r c v e = absurd (false≢true e)
+supports-e (k ∷ ks) [] c v e = absurd (false≢true e)
+supports-e (k ∷ ks) (x ∷ xs) c v e = go (or-e (eqb k c && eqb x v) _ e) (supports-e ks xs c v)
   where
-    go : ((eqb k c && eqb x v) ≡ true) ⊎ (carries ks xs c v ≡ true)
-        → (carries ks xs c v ≡ true → (i : ℕ) × (i < length ks) × (getD ks i 0 ≡ c) × (getD xs i 0 ≡ v))
+    go : ((eqb k c && eqb x v) ≡ true) ⊎ (supports ks xs c v ≡ true)
+        → (supports ks xs c v ≡ true → (i : ℕ) × (i < length ks) × (getD ks i 0 ≡ c) × (getD xs i 0 ≡ v))
         → (i : ℕ) × (i < suc (length ks)) × (getD (k ∷ ks) i 0 ≡ c) × (getD (x ∷ xs) i 0 ≡ v)
     go (inl p) f = (0, zero-lt-suc (length ks), eqb-true k c (and-l _ _ p), eqb-true x v (and-r (eqb k c) _ p))
     go (inr q) f = let r = f q in (suc (r .0), omega arith, r .2, r .3)
 
-carries-i : (ks r : List ℕ) (i v : ℕ) → length r ≡ length ks → i < length ks → getD r i 0 ≡ v → carries ks r (getD ks i 0) v ≡ true
-unfolding carries
-carries-i [] r i v h l e = absurd (not-suc-le-zero l)
-carries-i (k ∷ ks) [] i v h l e = absurd (omega arith)
-carries-i (k ∷ ks) (x ∷ xs) zero v h l e = or-l _ _ (and-i (eq-eqb k k refl) (eq-eqb x v e))
-carries-i (k ∷ ks) (x ∷ xs) (suc i) v h l e =
-    or-r (eqb k (getD ks i 0) && eqb x v) _ (carries-i ks xs i v (omega arith) (le-of-suc-le-suc l) e)
+supports-i : (ks r : List ℕ) (i v : ℕ) → length r ≡ length ks → i < length ks → getD r i 0 ≡ v → supports ks r (getD ks i 0) v ≡ true
+unfolding supports
+supports-i [] r i v h l e = absurd (not-suc-le-zero l)
+supports-i (k ∷ ks) [] i v h l e = absurd (omega arith)
+supports-i (k ∷ ks) (x ∷ xs) zero v h l e = or-l _ _ (and-i (eq-eqb k k refl) (eq-eqb x v e))
+supports-i (k ∷ ks) (x ∷ xs) (suc i) v h l e =
+    or-r (eqb k (getD ks i 0) && eqb x v) _ (supports-i ks xs i v (omega arith) (le-of-suc-le-suc l) e)
 
 -- rising columns differ
 pub distinct : (cs : List ℕ) → ((i j : ℕ) → i < j → j < length cs → getD cs i 0 < getD cs j 0)
@@ -108,12 +108,12 @@ unfolding supportedIn
 support-e B counts s p i l v e = go (or-e (not (anyIn (s .columns) (eqb (getD (s .columns) i 0)))) _ e)
   where
     go : (not (anyIn (s .columns) (eqb (getD (s .columns) i 0))) ≡ true)
-        ⊎ (anyChoice (pick B (s .columns)) (λ t. allows s t && carries (s .columns) t (getD (s .columns) i 0) v) ≡ true)
+        ⊎ (anyChoice (pick B (s .columns)) (λ t. allows s t && supports (s .columns) t (getD (s .columns) i 0) v) ≡ true)
         → Support B s i v
     go (inl q) = absurd (true≢false (sym (placed (s .columns) i l) ∙ not-true _ q))
     go (inr q) =
-        let r = anyChoice-e (pick B (s .columns)) (λ t. allows s t && carries (s .columns) t (getD (s .columns) i 0) v) q in
-        let j = carries-e (s .columns) (r .0) (getD (s .columns) i 0) v (and-r (allows s (r .0)) _ (r .2)) in
+        let r = anyChoice-e (pick B (s .columns)) (λ t. allows s t && supports (s .columns) t (getD (s .columns) i 0) v) q in
+        let j = supports-e (s .columns) (r .0) (getD (s .columns) i 0) v (and-r (allows s (r .0)) _ (r .2)) in
         let same : j .0 ≡ i = distinct (s .columns) (p .rising) (j .0) i (j .1) l (j .2) in
         record {
           row = r .0;
@@ -129,15 +129,15 @@ unfolding supportedIn
 support-i B d s c v h = go (either (anyIn (s .columns) (eqb c)))
   where
     go : (anyIn (s .columns) (eqb c) ≡ true) ⊎ (anyIn (s .columns) (eqb c) ≡ false)
-        → (not (anyIn (s .columns) (eqb c)) || anyChoice (pick B (s .columns)) (λ t. allows s t && carries (s .columns) t c v)) ≡ true
+        → (not (anyIn (s .columns) (eqb c)) || anyChoice (pick B (s .columns)) (λ t. allows s t && supports (s .columns) t c v)) ≡ true
     go (inr q) = or-l _ _ (ap not q)
     go (inl q) =
         let i = place (s .columns) c q in
         let k = h (i .0) (i .1) (i .2) in
         or-r (not (anyIn (s .columns) (eqb c))) _
-        (anyChoice-i (pick B (s .columns)) (pick-small B (s .columns) d) (λ t. allows s t && carries (s .columns) t c v) (k .row) (k .valid)
+        (anyChoice-i (pick B (s .columns)) (pick-small B (s .columns) d) (λ t. allows s t && supports (s .columns) t c v) (k .row) (k .valid)
         (and-i (k .sheet-allows)
-        (rw (i .2) at (carries-i (s .columns) (k .row) (i .0) v (k .valid .size ∙ length-pick B (s .columns)) (i .1) (k .value)))))
+        (rw (i .2) at (supports-i (s .columns) (k .row) (i .0) v (k .valid .size ∙ length-pick B (s .columns)) (i .1) (k .value)))))
 
 -- ---- consistent by the test, consistent by the paper
 pub consistent-to : (b : Book) → WellFormed b → (B : List ℕ) → Consistent (columnCount b) (supported b) B → ConsistentStore b B

@@ -9,7 +9,7 @@ use Prim.Native.Nat.{ℕ, zero, suc, _≤_, _<_}
 use native.Mathlib.Omega.{arith}
 use Rattle.model.specs.Tests.{eqList}
 use Rattle.model.specs.Stores.{has, Within, IsStore, emptyStore, allFilled, values}
-use Rattle.model.specs.Closure.{Monotone, Consistent, InClosure, Failed, strike, rounds, allRounds, closureOf, Between}
+use Rattle.model.specs.Closure.{Monotone, Consistent, InClosure, Failed, strike, rounds, closureOf, Between}
 use Rattle.model.proofs.Tests.{and-l, and-r, and-i, either, same-test, eqList-e, eqList-refl}
 use Rattle.model.proofs.Stores.{has-i, has-e, is-store, store-ext, in-store, within-refl, within-trans, empty-has, empty-store, filled-e, filled-i, values-fall}
 
@@ -77,23 +77,23 @@ module _ (C : ℕ) (ok : List ℕ → ℕ → ℕ → Bool) where
           (go k (strike C ok A) (strike-store A) (omega (arith, strike-fewer A a q)) (either (eqList (strike C ok (strike C ok A)) (strike C ok A))))
 
   -- ---- all rounds
-  all-within : (A : List ℕ) → Within (allRounds C ok A) A
-  unfolding allRounds
+  abbrev allRounds : List ℕ → List ℕ
+  allRounds A = rounds C ok (values C A) A
+
+  all-within : (A : List ℕ) → Within (allRounds A) A
   all-within A = rounds-within _ A
 
-  all-store : (A : List ℕ) → IsStore C A → IsStore C (allRounds C ok A)
-  unfolding allRounds
+  all-store : (A : List ℕ) → IsStore C A → IsStore C (allRounds A)
   all-store A a = rounds-store _ A a
 
-  all-rest : (A : List ℕ) → IsStore C A → (c v : ℕ) → has (allRounds C ok A) c v ≡ true → ok (allRounds C ok A) c v ≡ true
-  unfolding allRounds
+  all-rest : (A : List ℕ) → IsStore C A → (c v : ℕ) → has (allRounds A) c v ≡ true → ok (allRounds A) c v ≡ true
   all-rest A a = rounds-rest _ A a (omega arith)
 
-  closure-filled : (A : List ℕ) → allFilled C (allRounds C ok A) ≡ true → closureOf C ok A ≡ allRounds C ok A
+  closure-filled : (A : List ℕ) → allFilled C (allRounds A) ≡ true → closureOf C ok A ≡ allRounds A
   unfolding closureOf
   closure-filled A e = rw e
 
-  closure-empty : (A : List ℕ) → allFilled C (allRounds C ok A) ≡ false → closureOf C ok A ≡ emptyStore C
+  closure-empty : (A : List ℕ) → allFilled C (allRounds A) ≡ false → closureOf C ok A ≡ emptyStore C
   unfolding closureOf
   closure-empty A e = rw e
 
@@ -109,28 +109,27 @@ module _ (C : ℕ) (ok : List ℕ → ℕ → ℕ → Bool) where
               (and-i (w .at c v e) (mono .grows B A w c v (s .supported c v e)));
         }
 
-    all-keeps : (B A : List ℕ) → IsStore C A → Consistent C ok B → Within B A → Within B (allRounds C ok A)
-    unfolding allRounds
+    all-keeps : (B A : List ℕ) → IsStore C A → Consistent C ok B → Within B A → Within B (allRounds A)
     all-keeps B A a s w =
         rounds-ind (λ (X : List ℕ). IsStore C X × Within B X) (λ X h. (strike-store X, strike-keeps B X (h .0) s (h .1))) (values C A) A (a, w) .1
 
     module _ (A : List ℕ) (a : IsStore C A) where
-      all-consistent : allFilled C (allRounds C ok A) ≡ true → Consistent C ok (allRounds C ok A)
+      all-consistent : allFilled C (allRounds A) ≡ true → Consistent C ok (allRounds A)
       all-consistent e = record { filled = filled-e C _ e; supported = all-rest A a }
 
       -- a consistent store within A leaves no column empty
-      all-filled : (B : List ℕ) → Consistent C ok B → Within B A → allFilled C (allRounds C ok A) ≡ true
+      all-filled : (B : List ℕ) → Consistent C ok B → Within B A → allFilled C (allRounds A) ≡ true
       all-filled B s w =
           filled-i C _ (all-store A a) (λ c l. let r = s .filled c l in (r .0, all-keeps B A a s w .at c (r .0) (r .1)))
 
       -- a value stays exactly when some consistent store within A holds it
       pub closure-iff : (c v : ℕ) → (has (closureOf C ok A) c v ≡ true) ↔ InClosure C ok A c v
-      closure-iff c v = (to (either (allFilled C (allRounds C ok A))), from)
+      closure-iff c v = (to (either (allFilled C (allRounds A))), from)
         where
-          to : (allFilled C (allRounds C ok A) ≡ true) ⊎ (allFilled C (allRounds C ok A) ≡ false)
+          to : (allFilled C (allRounds A) ≡ true) ⊎ (allFilled C (allRounds A) ≡ false)
               → has (closureOf C ok A) c v ≡ true → InClosure C ok A c v
           to (inl p) e =
-              record { store = allRounds C ok A; consistent = all-consistent p; within = all-within A; holds = rw (closure-filled A p) at e }
+              record { store = allRounds A; consistent = all-consistent p; within = all-within A; holds = rw (closure-filled A p) at e }
           to (inr q) e = absurd (empty-has C c v (rw (closure-empty A q) at e))
 
           from : InClosure C ok A c v → has (closureOf C ok A) c v ≡ true
@@ -140,9 +139,9 @@ module _ (C : ℕ) (ok : List ℕ → ℕ → ℕ → Bool) where
 
       -- the closure is consistent, or it is empty
       pub consistent-or-empty : Consistent C ok (closureOf C ok A) ⊎ (closureOf C ok A ≡ emptyStore C)
-      consistent-or-empty = go (either (allFilled C (allRounds C ok A)))
+      consistent-or-empty = go (either (allFilled C (allRounds A)))
         where
-          go : (allFilled C (allRounds C ok A) ≡ true) ⊎ (allFilled C (allRounds C ok A) ≡ false)
+          go : (allFilled C (allRounds A) ≡ true) ⊎ (allFilled C (allRounds A) ≡ false)
               → Consistent C ok (closureOf C ok A) ⊎ (closureOf C ok A ≡ emptyStore C)
           go (inl p) = inl (rw (closure-filled A p) (all-consistent p))
           go (inr q) = inr (closure-empty A q)
@@ -151,9 +150,9 @@ module _ (C : ℕ) (ok : List ℕ → ℕ → ℕ → Bool) where
       closure-within = record { at = λ c v e. let s = closure-iff c v .0 e in s .within .at c v (s .holds) }
 
       pub closure-store : IsStore C (closureOf C ok A)
-      closure-store = go (either (allFilled C (allRounds C ok A)))
+      closure-store = go (either (allFilled C (allRounds A)))
         where
-          go : (allFilled C (allRounds C ok A) ≡ true) ⊎ (allFilled C (allRounds C ok A) ≡ false) → IsStore C (closureOf C ok A)
+          go : (allFilled C (allRounds A) ≡ true) ⊎ (allFilled C (allRounds A) ≡ false) → IsStore C (closureOf C ok A)
           go (inl p) = rw (closure-filled A p) (all-store A a)
           go (inr q) = rw (closure-empty A q) (empty-store C)
 

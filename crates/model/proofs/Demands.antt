@@ -11,13 +11,13 @@ use lib.ListN.{getD}
 use borrow.Author.Tests.{eq-eqb, lt-leb}
 use Rattle.model.specs.Tests.{oneIf}
 use Rattle.model.specs.Masks.{bit}
-use Rattle.model.specs.Stores.{has, IsStore, emptyStore, allFilled}
+use Rattle.model.specs.Stores.{has, IsStore, Within, emptyStore, allFilled}
 use Rattle.model.specs.Choices.{Lower}
 use Rattle.model.specs.Books.{Book, columnCount, WellFormed, ConsistentStore, Stays, Fails, closure}
 use Rattle.model.specs.Solutions.{Solution, FirstSolution, firstSolution}
 use Rattle.model.specs.Orders.{kind, argument, mask, zeroPlaces, someWrong, Entry, narrowed, checkpoint, depth as depthOf, firstCause, outside, refusal, AcceptedFinish, push, allowed, domains}
 use Rattle.model.specs.Answers.{assigned, statusOf, doneOf, stateOnly, outcomeNumber, outcomeMasks, finishOutcome, outcome, showing, answer, answersFrom, acceptedFrom, domainBytes, answerBytes}
-use Rattle.model.specs.Demands.{ChangesNothing, unrefused, unmasked, Demand2, ShowsState, ShowsFinish, EveryAnswer, SameAllowed, Narrower, SameFinish, Claim1, Claim2}
+use Rattle.model.specs.Demands.{ChangesNothing, unrefused, unmasked, Demand2, ShowsState, ShowsFinish, EveryAnswer, SameAllowed, SameFinish, Claim1, Claim2}
 use Rattle.model.proofs.Tests.{and-false, either}
 use Rattle.model.proofs.Masks.{bit-of-zero}
 use Rattle.model.proofs.Stores.{store-ext, empty-has, filled-e, filled-i}
@@ -217,7 +217,7 @@ same-domains b L M h =
     ap (closure b) (store-ext (columnCount b) (allowed b L) (allowed b M) (allowed-store b L) (allowed-store b M) (λ c v p q. h .at c v))
 
 -- "equal counts": lists that allow the same are each narrower than the other
-pub same-narrower : (b : Book) (L M : List Entry) → SameAllowed b L M → Narrower b L M
+pub same-narrower : (b : Book) (L M : List Entry) → SameAllowed b L M → Within (allowed b L) (allowed b M)
 same-narrower b L M h = record { at = λ c v e. sym (h .at c v) ∙ e }
 
 -- two finishes over equal domains
@@ -239,7 +239,7 @@ finish-same b L M o e f g =
     })
 
 -- the wider's first solution is the same as the narrower's or lower
-pub wider-first : (b : Book) (L M : List Entry) → Narrower b L M → (x : List ℕ) → FirstSolution b (domains b L) x
+pub wider-first : (b : Book) (L M : List Entry) → Within (allowed b L) (allowed b M) → (x : List ℕ) → FirstSolution b (domains b L) x
     → (y : List ℕ) × FirstSolution b (domains b M) y × ((y ≡ x) ⊎ Lower y x)
 wider-first b L M w x f =
     let y = has-first b (domains b M) (domains-store b M) x (solution-mono b (domains b L) (domains b M) x (domains-mono b L M w) (f .solution)) in

@@ -14,6 +14,16 @@ use Rattle.model.specs.Masks.{Cleared, bit, maskOf, size}
 use Rattle.model.specs.Tests.{oneIf}
 use Rattle.model.proofs.Tests.{below, either, none-count, one-count, positive, two-count}
 
+-- every place below 32, 60 or 64
+abbrev pub ones32 : ℕ
+ones32 = 4294967295
+
+abbrev pub ones60 : ℕ
+ones60 = 1152921504606846975
+
+abbrev pub ones64 : ℕ
+ones64 = 18446744073709551615
+
 pub bit-zero : (m : ℕ) → bit 0 m ≡ eqb (m % 2) 1
 unfolding bit
 bit-zero m = rw div-one

@@ -11,7 +11,7 @@ use Rattle.fields.specs.Bytes.{byteAt}
 use borrow.Author.Tests.{eqb-true, eqb-false, ne-eqb, ltb-false, leb-false}
 use Rattle.model.specs.Masks.{bit}
 use Rattle.model.specs.Books.{Book, columnCount}
-use Rattle.model.specs.Orders.{byKind, narrowCauses, markCauses, backCauses, otherCauses, kind, argument, mask, zeroPlaces, wrongPlace, someWrong, Entry, narrowed, checkpoint, depth, before, Cause, refuse_if_, firstCause, outside, refusal, applied, push}
+use Rattle.model.specs.Orders.{byKind, narrowCauses, markCauses, backCauses, otherCauses, kind, argument, mask, zeroPlaces, wrongPlace, someWrong, Entry, narrowed, checkpoint, depth, before, Cause, refuse_if_, firstCause, outside, refusal, push}
 use Rattle.model.proofs.Masks.{bit-of-zero}
 use Rattle.model.proofs.Tests.{or-l, or-r, either, anyBelow-none}
 
@@ -124,7 +124,7 @@ module _ (b : Book) (L : List Entry) (o : List ℕ) where
       → (kind o ≡ 2 → refusal b L o ≡ 0 → P (L ++ (checkpoint ∷ [])))
       → (kind o ≡ 3 → refusal b L o ≡ 0 → P (before (argument o) L))
       → P (push b L o)
-  unfolding push applied
+  unfolding push
   push-ind P z n m k = go (either (eqb (refusal b L o) 0)) (either (eqb (kind o) 1)) (either (eqb (kind o) 2)) (either (eqb (kind o) 3)) (either (eqb (kind o) 4))
     where
       go : (eqb (refusal b L o) 0 ≡ true) ⊎ (eqb (refusal b L o) 0 ≡ false) → (eqb (kind o) 1 ≡ true) ⊎ (eqb (kind o) 1 ≡ false)
@@ -144,15 +144,15 @@ module _ (b : Book) (L : List Entry) (o : List ℕ) where
   push-refused n = rw (ne-eqb (refusal b L o) 0 n)
 
   pub push-narrow : kind o ≡ 1 → refusal b L o ≡ 0 → push b L o ≡ L ++ (narrowed (argument o) (mask o) ∷ [])
-  unfolding push applied
+  unfolding push
   push-narrow k e = rw (e, k)
 
   pub push-mark : kind o ≡ 2 → refusal b L o ≡ 0 → push b L o ≡ L ++ (checkpoint ∷ [])
-  unfolding push applied
+  unfolding push
   push-mark k e = rw (e, k)
 
   pub push-back : kind o ≡ 3 → refusal b L o ≡ 0 → push b L o ≡ before (argument o) L
-  unfolding push applied
+  unfolding push
   push-back k e = rw (e, k)
 
   -- a finish leaves the trail as it is, accepted or refused

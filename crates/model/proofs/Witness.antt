@@ -10,9 +10,9 @@ use lib.Dec.{eqb, leb, ltb}
 use lib.ListN.{getD, length}
 use borrow.Author.Tests.{eqb-true, leb-true, ltb-true}
 use Rattle.model.specs.Acceptance.{BooksWellFormed, H, H1, H2, H7, H8, H9, RowFacts, openingArrays, sheetOf, unequal}
-use Rattle.model.specs.Books.{Book, Sheet, WellFormed, WellFormedSheet, columnCount}
+use Rattle.model.specs.Books.{Book, Sheet, WellFormed, WellFormedSheet, columnCount, sheetAt}
 use Rattle.model.specs.Orders.{Entry, allowed, domains, narrowed}
-use Rattle.model.specs.States.{Indexed, OneSheet, ofSheet, sheetAt, valid, validRow, validWord}
+use Rattle.model.specs.States.{Indexed, OneSheet, ofSheet, valid, validRow, validWord}
 use Rattle.model.specs.Stores.{allFilled}
 use Rattle.model.specs.Tests.{allBelow, allIn}
 use Rattle.model.proofs.Acceptance.{computing}

@@ -7,11 +7,11 @@ use mathlib.Core.List.{List, [], _∷_}
 use Prim.Native.Nat.{ℕ, zero, suc}
 use lib.ListN.{replicate}
 use Rattle.fields.specs.Bytes.{byteAt}
-use Rattle.model.specs.Books.{Sheet, Book, WellFormed}
+use Rattle.model.specs.Books.{Sheet, Book, WellFormed, sheetAt}
 use Rattle.model.specs.Search.{searchSolution}
 use Rattle.model.specs.Orders.{Entry, checkpoint, refusal, trail, domains}
 use Rattle.model.specs.Answers.{Answer, answers, lastAnswer, acceptedCount, answerBytes}
-use Rattle.model.specs.States.{validWord, sheetAt, Arrays, StateHolds}
+use Rattle.model.specs.States.{validWord, Arrays, StateHolds}
 use Rattle.model.specs.Demands.{SameAllowed}
 
 abbrev pub sheetOf : List ℕ → List (List ℕ) → Sheet

@@ -7,9 +7,9 @@ use lib.Dec.{eqb, ltb, leb}
 use lib.ListN.{length, getD, take, drop}
 use Rattle.fields.specs.Bytes.{wordAt, wordBytes}
 use Rattle.model.specs.Tests.{allBelow, oneIf, count, tab}
-use Rattle.model.specs.Masks.{size}
+use Rattle.model.specs.Masks.{maskOf, size}
 use Rattle.model.specs.Stores.{allFilled}
-use Rattle.model.specs.Books.{Sheet, Book, columnCount}
+use Rattle.model.specs.Books.{Sheet, Book, columnCount, sheetAt}
 use Rattle.model.specs.Solutions.{firstSolution}
 use Rattle.model.specs.Orders.{byKind, kind, Entry, depth, refusal, isAccepted, push, domains}
 
@@ -27,14 +27,9 @@ statusOf b D = cond (allFilled (columnCount b) D) (cond (assigned b D) 2 1) 0
 unfoldable pub subsumed : List ℕ → Sheet → Bool
 subsumed D s = leb (count (length (s .columns)) (λ i. ltb 1 (size (getD D (getD (s .columns) i 0) 0)))) 1
 
--- bit s for each subsumed sheet s
-unfoldable pub subsumedBits : List ℕ → List Sheet → ℕ
-subsumedBits D [] = 0
-subsumedBits D (s ∷ ss) = oneIf (subsumed D s) + 2 * subsumedBits D ss
-
 -- "The done byte has bit s for sheet s", and no bit where the session is dead
 unfoldable pub doneOf : Book → List ℕ → ℕ
-doneOf b D = cond (allFilled (columnCount b) D) (subsumedBits D (b .sheets)) 0
+doneOf b D = cond (allFilled (columnCount b) D) (maskOf (length (b .sheets)) (λ s. subsumed D (sheetAt b s))) 0
 
 -- ---- answers
 pub record Answer : Type 0 where

@@ -26,6 +26,10 @@ pub record Book : Type 0 where
 abbrev pub columnCount : Book → ℕ
 columnCount b = length (b .counts)
 
+-- sheet s of the book
+abbrev pub sheetAt : Book → ℕ → Sheet
+sheetAt b s = getD (b .sheets) s (record { columns = []; rows = [] })
+
 -- the cell x of a row is in the domain d: "A row lies in a box when each of its values is in its column's domain". Whatever looks at a cell goes by this
 abbrev pub inDomain : ℕ → ℕ → Bool
 inDomain x d = bit x d
@@ -95,15 +99,15 @@ pub record Fails (b : Book) (A : List ℕ) : Type 0 where
 
 -- ---- the same as a computation
 -- with these columns, t has the value v in column c
-unfoldable pub carries : List ℕ → List ℕ → ℕ → ℕ → Bool
-carries [] t c v = false
-carries (k ∷ ks) [] c v = false
-carries (k ∷ ks) (x ∷ xs) c v = (eqb k c && eqb x v) || carries ks xs c v
+unfoldable pub supports : List ℕ → List ℕ → ℕ → ℕ → Bool
+supports [] t c v = false
+supports (k ∷ ks) [] c v = false
+supports (k ∷ ks) (x ∷ xs) c v = (eqb k c && eqb x v) || supports ks xs c v
 
 -- c is not one of the sheet's columns, or in the store B the sheet allows some choice with the value v in column c
 unfoldable pub supportedIn : List ℕ → ℕ → ℕ → Sheet → Bool
 supportedIn B c v s =
-    not (anyIn (s .columns) (eqb c)) || anyChoice (pick B (s .columns)) (λ t. allows s t && carries (s .columns) t c v)
+    not (anyIn (s .columns) (eqb c)) || anyChoice (pick B (s .columns)) (λ t. allows s t && supports (s .columns) t c v)
 
 -- the same of every sheet: the book's support test
 unfoldable pub supported : Book → List ℕ → ℕ → ℕ → Bool

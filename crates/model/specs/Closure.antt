@@ -38,13 +38,9 @@ module _ (C : ℕ) (ok : List ℕ → ℕ → ℕ → Bool) where
   rounds zero A = A
   rounds (suc k) A = let S = strike A in elim (eqList S A) [ true ↦ A | false ↦ rounds k S ]
 
-  -- as many rounds as A has values: each strikes at least one, or is the last
-  unfoldable pub allRounds : List ℕ → List ℕ
-  allRounds A = rounds (values C A) A
-
-  -- what the rounds leave, or nothing at all where a column is empty
+  -- what the rounds leave, or nothing at all where a column is empty. As many rounds as A has values: each strikes at least one, or is the last
   unfoldable pub closureOf : List ℕ → List ℕ
-  closureOf A = let B = allRounds A in cond (allFilled C B) B (emptyStore C)
+  closureOf A = let B = rounds (values C A) A in cond (allFilled C B) B (emptyStore C)
 
   -- ---- what an engine keeps that strikes unsupported values one by one, in any order
   -- B lies between the closure of A and A

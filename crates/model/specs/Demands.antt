@@ -10,7 +10,7 @@ use Prim.Native.Nat.{ℕ, _+_, _^_, _≤_, _<_}
 use lib.Dec.{eqb}
 use Rattle.fields.specs.Bytes.{byteAt}
 use Rattle.model.specs.Tests.{oneIf, tab}
-use Rattle.model.specs.Stores.{has, Within, emptyStore}
+use Rattle.model.specs.Stores.{has, emptyStore}
 use Rattle.model.specs.Books.{Book, columnCount, WellFormed, Stays, Fails}
 use Rattle.model.specs.Solutions.{Solution, FirstSolution, NoSolution, firstSolution}
 use Rattle.model.specs.Search.{searchSolution}
@@ -90,10 +90,6 @@ pub record EveryAnswer (b : Book) : Type 0 where
 -- "the same allowed values in every column"
 pub record SameAllowed (b : Book) (L M : List Entry) : Type 0 where
   pub at : (c v : ℕ) → has (allowed b L) c v ≡ has (allowed b M) c v
-
--- "in every column it allows only values that the other allows too; equal counts"
-abbrev pub Narrower : Book → List Entry → List Entry → Type 0
-Narrower b L M = Within (allowed b L) (allowed b M)
 
 -- two answers to a finish "agree in bytes 1, 3, 4 and 8 to 71"
 pub record SameFinish (a d : List ℕ) : Type 0 where

@@ -111,14 +111,12 @@ pub record AcceptedFinish (b : Book) (L : List Entry) (o : List ℕ) : Type 0 wh
   pub accepted : refusal b L o ≡ 0
 
 -- ---- what an order makes of the trail
--- "an accepted narrow joins its end; a mark adds a bar; back m cuts away bar m and all after it; any other order … does nothing"
-unfoldable pub applied : List Entry → List ℕ → List Entry
-applied L o =
-    byKind (kind o) (L ++ (narrowed (argument o) (mask o) ∷ [])) (L ++ (checkpoint ∷ [])) (before (argument o) L) L L
-
--- "every refused one included, does nothing"
+-- "an accepted narrow joins its end; a mark adds a bar; back m cuts away bar m and all after it; any other order, finish and every refused
+-- one included, does nothing"
 unfoldable pub push : Book → List Entry → List ℕ → List Entry
-push b L o = cond (isAccepted b L o) (applied L o) L
+push b L o =
+    cond (isAccepted b L o)
+    (byKind (kind o) (L ++ (narrowed (argument o) (mask o) ∷ [])) (L ++ (checkpoint ∷ [])) (before (argument o) L) L L) L
 
 -- the trail after a list of orders that comes when L stands
 unfoldable pub trailFrom : Book → List Entry → List (List ℕ) → List Entry

@@ -9,7 +9,7 @@ use lib.Dec.{ltb}
 use lib.ListN.{length, getD}
 use Rattle.model.specs.Masks.{maskOf}
 use Rattle.model.specs.Stores.{has, IsStore}
-use Rattle.model.specs.Books.{Sheet, Book, columnCount, WellFormed, closure, inDomain}
+use Rattle.model.specs.Books.{Sheet, Book, columnCount, WellFormed, closure, inDomain, sheetAt}
 use Rattle.model.specs.Orders.{Entry, domains}
 
 -- "A row lies in a box when each of its values is in its column's domain": one value for each of these columns
@@ -47,7 +47,7 @@ OneSheets =
 unfoldable pub validWord : List ℕ → Sheet → ℕ → ℕ
 validWord D s w = maskOf 64 (λ k. validRow D s (64 * w + k))
 
--- "An index lists word numbers as a permutation, and position i is at or below the limit exactly when the word it names isn't zero."
+-- "An index lists word numbers as a permutation, and position i is at or below the limit exactly when the word it names isn't zero"
 -- Each of the eight word numbers stands at one position.
 -- n is the number of words that are not zero, one more than the limit: "With no live row the limit is −1", and n is 0
 --
@@ -68,10 +68,6 @@ pub record Indexed (index : ℕ → ℕ) (n : ℕ) (word : ℕ → ℕ) : Type 0
 -- entry i of sheet s in an array with eight for each sheet
 abbrev pub ofSheet : List ℕ → ℕ → ℕ → ℕ
 ofSheet xs s i = getD xs (8 * s + i) 0
-
--- sheet s of the book
-abbrev pub sheetAt : Book → ℕ → Sheet
-sheetAt b s = getD (b .sheets) s (record { columns = []; rows = [] })
 
 -- a state: "arrays of live-row words, index positions, limits and domains"; a limit is held as the number of words that are not zero, which is
 -- one more

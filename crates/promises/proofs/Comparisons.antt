@@ -24,10 +24,10 @@ use Rattle.model.proofs.Tests.{getD-tab, length-tab}
 use Rattle.model.proofs.Trails.{domains-mono, domains-store, last-snoc}
 use Rattle.book.specs.Decoding.{bookOf}
 use Rattle.book.specs.Verdicts.{Accepted}
-use Rattle.engine.specs.Holds.{Holds}
-use Rattle.engine.specs.Lists.{ordersOf}
-use Rattle.engine.specs.declared.session.Session.{Session}
-use Rattle.engine.proofs.Lists.{orders-append}
+use Rattle.sessions.specs.Holds.{Holds}
+use Rattle.sessions.specs.Lists.{ordersOf}
+use Rattle.sessions.specs.declared.session.Session.{Session}
+use Rattle.sessions.proofs.Lists.{orders-append}
 use Rattle.promises.specs.Comparisons.{BothRan, Demand3, ListRan, current}
 use Rattle.promises.specs.Promises.{EndsWith, NarrowerEnd, NextFinish, RunsCompare, setIn, standingAfter}
 use Rattle.runs.specs.Results.{RightInput, spaceNeeded, wrongList}
@@ -179,7 +179,6 @@ module _ (b x y : List ℕ) {s t : Session} (p : Holds b (standingAfter b x) s) 
     same-domains = λ h c.
         p .current .holds .domain c ∙ ap (λ (D : List ℕ). getD D c 0) (same-domains (bookOf b) L M h) ∙ sym (q .current .holds .domain c);
     narrower-within = inner;
-    wider-solution = λ w v f. (v, solution-mono (bookOf b) (current s) (current t) v (inner w) f);
     wider-first = λ w v f.
         let u = has-first (bookOf b) (domains (bookOf b) L) (domains-store (bookOf b) L) v (solution-mono (bookOf b) (current s) (domains (bookOf b) L) v (to p) f) in
         let z = wider-first (bookOf b) L M w (u .0) (u .1) in (

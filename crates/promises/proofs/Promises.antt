@@ -28,14 +28,14 @@ use Rattle.model.proofs.Tests.{below, getD-tab, getD-tab-out, sum-last, sum-sam
 use Rattle.model.proofs.Trails.{accepted-snoc, domains-store, trail-snoc}
 use Rattle.book.specs.Decoding.{bookOf}
 use Rattle.book.proofs.Decoding.{accepted-right, right-formed}
-use Rattle.engine.specs.Lists.{orderAt, ordersOf, ordersTo}
-use Rattle.engine.proofs.Lists.{orders-more, tab-last}
+use Rattle.sessions.specs.Lists.{orderAt, ordersOf, ordersTo}
+use Rattle.sessions.proofs.Lists.{orders-more, tab-last}
 use Rattle.promises.specs.Promises.{AcceptedRun, AcceptedRuns, AnswerShowsFinish, AnswerShowsState, AnswerTells, AnyRun, AnyRuns, IsFinish, standing}
 use Rattle.runs.specs.Results.{runRefusal, runResult, runSpace, spaceNeeded}
-use Rattle.runs.specs.Spaces.{written}
+use Rattle.answers.specs.Spaces.{written}
 use Rattle.runs.proofs.Results.{accepted-number, result-accepted, result-small, right-input, space-accepted, space-refused, zero-or}
 use Rattle.runs.proofs.Runs.{answers-at, length-answers}
-use Rattle.runs.proofs.Spaces.{answer-part, length-all, length-written}
+use Rattle.answers.proofs.Spaces.{answer-part, length-all, length-written}
 
 -- ---- one answer of the model, read back from its bytes
 module _ (B : Book) (p : WellFormed B) (L : List Entry) (a : Answer) where
@@ -222,7 +222,7 @@ module _ (b o space : List ℕ) where
         (reads-finish bk well (T i) (answer bk (T i) (orderAt o i)) (shown-small bk (T i) (orderAt o i))
         (claim2 bk well .1 .finished (T i) (orderAt o i) (record { of-kind = k; accepted = sym (refusals i l) ∙ f .accepted }))))
 
-    accepted-run : AcceptedRun b o S n (runResult b o (length space))
+    accepted-run : AcceptedRun bk T o S n (runResult b o (length space))
     accepted-run = record {
       counted = counted;
       refusals = refusals;

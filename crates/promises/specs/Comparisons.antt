@@ -9,8 +9,8 @@ use Rattle.model.specs.Choices.{Lower}
 use Rattle.model.specs.Solutions.{FirstSolution, Solution}
 use Rattle.model.specs.Stores.{Within}
 use Rattle.book.specs.Decoding.{bookOf}
-use Rattle.engine.specs.Holds.{Holds}
-use Rattle.engine.specs.declared.session.Session.{Session}
+use Rattle.sessions.specs.Holds.{Holds}
+use Rattle.sessions.specs.declared.session.Session.{Session}
 use Rattle.promises.specs.Promises.{ComparedRuns, EqualEnds, NarrowerEnd, standingAfter}
 use Rattle.runs.specs.Results.{runSpace}
 use Rattle.runs.specs.Runs.{Led}
@@ -28,9 +28,8 @@ pub record Demand3 (b x y : List ℕ) (s t : Session) : Type 0 where
   pub same-domains : EqualEnds b x y → (c : ℕ) → getD (current s) c 0 ≡ getD (current t) c 0
   -- "Then each value in a current domain of the narrower is in the wider's domain of that column."
   pub narrower-within : NarrowerEnd b x y → Within (current s) (current t)
-  -- "If there is a full set in the narrower's current domains, there is one in the wider's,
-  pub wider-solution : NarrowerEnd b x y → (v : List ℕ) → Solution (bookOf b) (current s) v → (z : List ℕ) × Solution (bookOf b) (current t) z
-  -- and the wider's first is the same as the narrower's or has the lower value in the lowest column where they differ."
+  -- "If there is a full set in the narrower's current domains, there is one in the wider's, and the wider's first is the same as the narrower's or has
+  -- the lower value in the lowest column where they differ."
   pub wider-first : NarrowerEnd b x y → (v : List ℕ) → Solution (bookOf b) (current s) v
       → (w : List ℕ) × (z : List ℕ) × FirstSolution (bookOf b) (current s) w × FirstSolution (bookOf b) (current t) z × ((z ≡ w) ⊎ Lower z w)
 

@@ -12,14 +12,15 @@ use Rattle.fields.specs.Bytes.{byteAt}
 use Rattle.model.specs.Answers.{answerAt, doneOf, domainIn, statusOf}
 use Rattle.model.specs.Books.{Book, Fails, Stays, columnCount}
 use Rattle.model.specs.Choices.{Lower}
-use Rattle.model.specs.Demands.{Narrower, SameAllowed, SameFinish}
+use Rattle.model.specs.Demands.{SameAllowed, SameFinish}
 use Rattle.model.specs.Masks.{bit}
 use Rattle.model.specs.Orders.{Entry, allowed, depth, domains, kind, refusal, trail}
 use Rattle.model.specs.Search.{valueOf}
 use Rattle.model.specs.Solutions.{FirstSolution, NoSolution, Solution}
+use Rattle.model.specs.Stores.{Within}
 use Rattle.model.specs.Tests.{count, tab}
 use Rattle.book.specs.Decoding.{bookOf}
-use Rattle.engine.specs.Lists.{orderAt, ordersTo}
+use Rattle.sessions.specs.Lists.{orderAt, ordersTo}
 use Rattle.runs.specs.Results.{runRefusal, runResult, runSpace, spaceNeeded}
 
 -- ---- demand 1: any bytes as book and orders, any answer space
@@ -63,7 +64,7 @@ pub record AnswerShowsFinish (B : Book) (L : List Entry) (a : List ℕ) : Type 0
   pub zeros : NoSolution B (domains B L) → (c : ℕ) → c < 16 → domainIn a c ≡ 0
 
 -- ---- an accepted run; S is the answer space at its end
--- what stands when answer i is given
+-- what stands when answer i is given, by the bytes of book and list
 abbrev pub standing : List ℕ → List ℕ → ℕ → List Entry
 standing b o i = trail (bookOf b) (ordersTo o i)
 
@@ -73,31 +74,24 @@ pub record IsFinish (o S : List ℕ) (i : ℕ) : Type 0 where
   pub of-kind : kind (orderAt o (i - 1)) ≡ 4
   pub accepted : byteAt (answerAt S i) 0 ≡ 0
 
-pub record AcceptedRun (b o S : List ℕ) (n accepted : ℕ) : Type 0 where
+-- over the book B, when L i stands as answer i is given
+pub record AcceptedRun (B : Book) (L : ℕ → List Entry) (o S : List ℕ) (n accepted : ℕ) : Type 0 where
   -- demand 1: "the accepted count is the number of orders answered with 0", answer 0 being that of no order
   pub counted : accepted ≡ count n (λ i. eqb (byteAt (answerAt S (i + 1)) 0) 0)
   -- "byte 0 the refusal or 0": by the order's bytes, the book and what stands
-  pub refusals : (i : ℕ) → i < n → byteAt (answerAt S (i + 1)) 0 ≡ refusal (bookOf b) (standing b o i) (orderAt o i)
+  pub refusals : (i : ℕ) → i < n → byteAt (answerAt S (i + 1)) 0 ≡ refusal B (L i) (orderAt o i)
   pub opened : byteAt (answerAt S 0) 0 ≡ 0
   -- "a refused order changes no domain or mark", for the whole standing list stays
-  pub refused-order : (i : ℕ) → i < n → (byteAt (answerAt S (i + 1)) 0 ≡ 0 → ⊥) → standing b o (i + 1) ≡ standing b o i
+  pub refused-order : (i : ℕ) → i < n → (byteAt (answerAt S (i + 1)) 0 ≡ 0 → ⊥) → L (i + 1) ≡ L i
   -- every answer, by what stands when it is given
-  pub tells : (i : ℕ) → i ≤ n → AnswerTells (bookOf b) (standing b o i) (answerAt S i)
-  pub states : (i : ℕ) → i ≤ n → (IsFinish o S i → ⊥) → AnswerShowsState (bookOf b) (standing b o i) (answerAt S i)
-  pub finishes : (i : ℕ) → i ≤ n → IsFinish o S i → AnswerShowsFinish (bookOf b) (standing b o i) (answerAt S i)
+  pub tells : (i : ℕ) → i ≤ n → AnswerTells B (L i) (answerAt S i)
+  pub states : (i : ℕ) → i ≤ n → (IsFinish o S i → ⊥) → AnswerShowsState B (L i) (answerAt S i)
+  pub finishes : (i : ℕ) → i ≤ n → IsFinish o S i → AnswerShowsFinish B (L i) (answerAt S i)
 
--- ---- demand 3, of the answers: "any two whole lists", of orders of any kind, over one book. x and y are the lists, a and d answers
+-- ---- demand 3, of the answers: "any two whole lists", of orders of any kind, over one book
 -- what stands after the whole list
 abbrev pub standingAfter : List ℕ → List ℕ → List Entry
 standingAfter b o = standing b o (length o / 8)
-
--- "Lists that end with the same allowed values in every column"
-abbrev pub EqualEnds : List ℕ → List ℕ → List ℕ → Type 0
-EqualEnds b x y = SameAllowed (bookOf b) (standingAfter b x) (standingAfter b y)
-
--- x "is narrower than another, the wider one, when in every column it allows only values that the other allows too; equal counts"
-abbrev pub NarrowerEnd : List ℕ → List ℕ → List ℕ → Type 0
-NarrowerEnd b x y = Narrower (bookOf b) (standingAfter b x) (standingAfter b y)
 
 -- a is the last answer of an accepted run of the list o, in whatever space: "answer 0 for an empty list"
 pub record EndsWith (b o a : List ℕ) : Type 0 where
@@ -105,30 +99,40 @@ pub record EndsWith (b o a : List ℕ) : Type 0 where
   pub accepted : runRefusal b o (length space) ≡ 0
   pub last : a ≡ answerAt (runSpace b o space) (length o / 8)
 
--- the finish f "is then given to both": a and d are its answers, the last ones of the lists with f appended. So each has up to 255 orders before it
-pub record NextFinish (b x y f a d : List ℕ) : Type 0 where
-  pub bytes : length f ≡ 8
-  pub of-kind : kind f ≡ 4
-  pub left : EndsWith b (x ++ f) a
-  pub right : EndsWith b (y ++ f) d
-
 -- the full set that an answer shows: a value for each column
 abbrev pub setIn : List ℕ → List ℕ → List ℕ
 setIn b a = tab (columnCount (bookOf b)) (λ c. valueOf (domainIn a c))
 
-pub record ComparedRuns (b x y : List ℕ) : Type 0 where
-  -- "Lists that end with the same allowed values in every column agree in bytes 1 and 4 of their last answers (answer 0 for an empty list)"
-  pub same-status : EqualEnds b x y → (a d : List ℕ) → EndsWith b x a → EndsWith b y d → byteAt a 1 ≡ byteAt d 1
-  pub same-done : EqualEnds b x y → (a d : List ℕ) → EndsWith b x a → EndsWith b y d → byteAt a 4 ≡ byteAt d 4
-  -- a finish that is then given to both is accepted in both or in none
-  pub same-refusal : (f a d : List ℕ) → NextFinish b x y f a d → byteAt a 0 ≡ byteAt d 0
-  -- "If one accepted finish with the same bytes is then given to both, they agree in bytes 1, 3, 4 and 8 to 71 of its answer."
-  pub same-finish : EqualEnds b x y → (f a d : List ℕ) → NextFinish b x y f a d → byteAt a 0 ≡ 0 → SameFinish a d
-  -- "If there is a full set in the narrower's current domains, there is one in the wider's,
-  pub wider-found : NarrowerEnd b x y → (f a d : List ℕ) → NextFinish b x y f a d → byteAt a 0 ≡ 0 → byteAt a 3 ≡ 1 → byteAt d 3 ≡ 1
-  -- and the wider's first is the same as the narrower's or has the lower value in the lowest column where they differ."
-  pub wider-first : NarrowerEnd b x y → (f a d : List ℕ) → NextFinish b x y f a d → byteAt a 0 ≡ 0 → byteAt a 3 ≡ 1
-      → (setIn b d ≡ setIn b a) ⊎ Lower (setIn b d) (setIn b a)
+-- x and y are the lists, a and d answers
+module _ (b x y : List ℕ) where
+  -- "Lists that end with the same allowed values in every column"
+  abbrev pub EqualEnds : Type 0
+  EqualEnds = SameAllowed (bookOf b) (standingAfter b x) (standingAfter b y)
+
+  -- x "is narrower than another, the wider one, when in every column it allows only values that the other allows too; equal counts"
+  abbrev pub NarrowerEnd : Type 0
+  NarrowerEnd = Within (allowed (bookOf b) (standingAfter b x)) (allowed (bookOf b) (standingAfter b y))
+
+  -- the finish f "is then given to both": a and d are its answers, the last ones of the lists with f appended. So each has up to 255 orders before it
+  pub record NextFinish (f a d : List ℕ) : Type 0 where
+    pub bytes : length f ≡ 8
+    pub of-kind : kind f ≡ 4
+    pub left : EndsWith b (x ++ f) a
+    pub right : EndsWith b (y ++ f) d
+
+  pub record ComparedRuns : Type 0 where
+    -- "Lists that end with the same allowed values in every column agree in bytes 1 and 4 of their last answers (answer 0 for an empty list)"
+    pub same-status : EqualEnds → (a d : List ℕ) → EndsWith b x a → EndsWith b y d → byteAt a 1 ≡ byteAt d 1
+    pub same-done : EqualEnds → (a d : List ℕ) → EndsWith b x a → EndsWith b y d → byteAt a 4 ≡ byteAt d 4
+    -- a finish that is then given to both is accepted in both or in none
+    pub same-refusal : (f a d : List ℕ) → NextFinish f a d → byteAt a 0 ≡ byteAt d 0
+    -- "If one accepted finish with the same bytes is then given to both, they agree in bytes 1, 3, 4 and 8 to 71 of its answer."
+    pub same-finish : EqualEnds → (f a d : List ℕ) → NextFinish f a d → byteAt a 0 ≡ 0 → SameFinish a d
+    -- "If there is a full set in the narrower's current domains, there is one in the wider's,
+    pub wider-found : NarrowerEnd → (f a d : List ℕ) → NextFinish f a d → byteAt a 0 ≡ 0 → byteAt a 3 ≡ 1 → byteAt d 3 ≡ 1
+    -- and the wider's first is the same as the narrower's or has the lower value in the lowest column where they differ."
+    pub wider-first : NarrowerEnd → (f a d : List ℕ) → NextFinish f a d → byteAt a 0 ≡ 0 → byteAt a 3 ≡ 1
+        → (setIn b d ≡ setIn b a) ⊎ Lower (setIn b d) (setIn b a)
 
 -- ---- the claims, of every book, list and space
 abbrev pub AnyRuns : Type 0
@@ -137,7 +141,7 @@ AnyRuns = (b o space : List ℕ) → AnyRun b o space
 abbrev pub AcceptedRuns : Type 0
 AcceptedRuns =
     (b o space : List ℕ) → runRefusal b o (length space) ≡ 0
-    → AcceptedRun b o (runSpace b o space) (length o / 8) (runResult b o (length space))
+    → AcceptedRun (bookOf b) (standing b o) o (runSpace b o space) (length o / 8) (runResult b o (length space))
 
 abbrev pub RunsCompare : Type 0
 RunsCompare = (b x y : List ℕ) → ComparedRuns b x y

@@ -3,8 +3,8 @@
 // Promise: `AnyRuns`, `AcceptedRuns` and `RunsCompare` (specs/Promises.antt) are the demands of the bytes that runs leave, proved as `anyRuns`,
 // `acceptedRuns` and `runsCompare`. `run_both` ensures demand 3 of any two lists, whole (`BothRan`, specs/Comparisons.antt): its sentences on "the
 // session given back" no answer shows. The sessions are those of the loop that `fitting_run` runs.
-use engine::session::*;
 use runs::run::*;
+use sessions::session::*;
 ghost use lib.ListN.{length};
 ghost use Rattle.runs.specs.Results.{RightInput};
 ghost use Rattle.promises.specs.Comparisons.{BothRan};

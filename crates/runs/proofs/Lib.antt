@@ -1,4 +1,3 @@
--- The laws behind a run: spaces, the number and the space of a run, and a list on its way.
-pub mod Spaces
+-- The laws behind a run: a list on its way, the number and the space of a run.
 pub mod Runs
 pub mod Results

@@ -12,9 +12,9 @@ use Rattle.model.specs.Answers.{acceptedCount, answers}
 use Rattle.model.proofs.Tests.{either, length-tab, or-false-l, or-false-r}
 use Rattle.book.specs.Decoding.{bookOf}
 use Rattle.book.specs.Verdicts.{checkResult}
-use Rattle.engine.specs.Lists.{orderAt, ordersOf}
+use Rattle.sessions.specs.Lists.{orderAt, ordersOf}
 use Rattle.runs.specs.Results.{RightInput, runRefusal, runResult, runSpace, spaceNeeded, wrongList}
-use Rattle.runs.specs.Spaces.{written}
+use Rattle.answers.specs.Spaces.{written}
 use Rattle.runs.proofs.Runs.{accepted-few}
 
 pub whole-list : (o : List ℕ) → wrongList o ≡ false → length o % 8 ≡ 0

@@ -9,8 +9,8 @@ use lib.ListN.{length}
 use Rattle.model.specs.Answers.{acceptedCount, answers}
 use Rattle.book.specs.Decoding.{bookOf}
 use Rattle.book.specs.Verdicts.{Accepted, checkResult, refused}
-use Rattle.engine.specs.Lists.{ordersOf}
-use Rattle.runs.specs.Spaces.{written}
+use Rattle.sessions.specs.Lists.{ordersOf}
+use Rattle.answers.specs.Spaces.{written}
 
 -- "10 if the orders aren't a multiple of 8 bytes or exceed 2,048 bytes"
 unfoldable pub wrongList : List ℕ → Bool

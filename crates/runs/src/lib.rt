@@ -3,7 +3,5 @@
 // Promise: `run` returns `runResult` and leaves `runSpace` (specs/Results.antt), for any bytes and any answer space. What this comes to in the
 // customer's words stands in the crate promises.
 //
-//   shown    a session's answers, each in its own part of the answer space
 //   run      the run: its refusals, and the loop over the orders
 pub mod run;
-pub mod shown;

@@ -1,9 +1,9 @@
 // The run of a list: any bytes as book and orders, any answer space.
-use crate::shown::*;
 use engine::layout::*;
-use engine::orders::*;
-use engine::session::*;
 use fields::wide;
+use sessions::orders::*;
+use sessions::session::*;
+use shown::*;
 ghost use mathlib.Core.Path.{_≡_};
 ghost use Prim.Native.Nat.{_+_, _*_, _/_, _<_};
 ghost use lib.ListN.{length};

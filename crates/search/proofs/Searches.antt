@@ -27,17 +27,17 @@ use Rattle.model.proofs.Trails.{domains-closed, domains-store, allowed-store}
 use Rattle.model.proofs.Choices.{opt}
 use Rattle.model.proofs.Books.{closed-or-empty}
 use Rattle.book.specs.Decoding.{bookOf}
-use Rattle.book.specs.Heads.{columnsOf}
+use Rattle.heads.specs.Heads.{columnsOf}
 use Rattle.book.specs.Verdicts.{Accepted}
 use Rattle.book.proofs.Decoding.{accepted-right, right-formed}
-use Rattle.book.proofs.Heads.{columns-range}
-use Rattle.words.proofs.Walks.{split}
+use Rattle.heads.proofs.Heads.{columns-range}
+use Rattle.cells.proofs.Walks.{split}
 use Rattle.engine.specs.Layouts.{LayoutOf}
-use Rattle.engine.specs.Propagation.{Propagated, Ready, closureIn, isOpen, storeIn}
+use Rattle.engine.specs.Propagation.{Fixpoint, Ready, closureIn, isOpen, storeIn}
 use Rattle.engine.specs.Worklists.{WaitingFor}
-use Rattle.engine.specs.Sessions.{SomeState}
+use Rattle.engine.specs.States.{SomeState}
 use Rattle.engine.specs.declared.state.State.{State}
-use Rattle.engine.proofs.Sessions.{met-closure, met-store, narrow-ready}
+use Rattle.engine.proofs.States.{met-closure, met-store, narrow-ready}
 use Rattle.engine.proofs.Propagation.{columns-count, store-in, store-is, no-value}
 use Rattle.engine.proofs.Worklists.{zeros-at}
 use Rattle.search.specs.Searches.{FilledState, FoundIs, OpenValue, searchAfter, searchIn, isFound, solutionMasks, Finishes}
@@ -74,8 +74,8 @@ module _ (b : List ℕ) (acc : Accepted b) where
     pub filled-store : IsStore (columnCount (bookOf b)) (storeIn b D)
     filled-store = store-in b (h .is .store)
 
-    filled-domains : storeIn b D ≡ domains (bookOf b) (h .stands)
-    filled-domains = store-is b D (domains (bookOf b) (h .stands)) (domains-store (bookOf b) (h .stands)) (h .is .holds .domain)
+    filled-domains : storeIn b D ≡ domains (bookOf b) (h .trail)
+    filled-domains = store-is b D (domains (bookOf b) (h .trail)) (domains-store (bookOf b) (h .trail)) (h .is .holds .domain)
 
     pub filled-same : (c : ℕ) → getD D c 0 ≡ getD (storeIn b D) c 0
     filled-same c = rw filled-domains (h .is .holds .domain c)
@@ -88,7 +88,7 @@ module _ (b : List ℕ) (acc : Accepted b) where
     some-value c l = let p = h .filled c (omega (arith, columns-count b)) in (p .0, sym (same-has c (p .0)) ∙ p .1)
 
     pub filled-closed : closure (bookOf b) (storeIn b D) ≡ storeIn b D
-    filled-closed = ap (closure (bookOf b)) filled-domains ∙ domains-closed (bookOf b) (h .stands) ∙ sym filled-domains
+    filled-closed = ap (closure (bookOf b)) filled-domains ∙ domains-closed (bookOf b) (h .trail) ∙ sym filled-domains
 
     pub filled-consistent : ConsistentStore (bookOf b) (storeIn b D)
     filled-consistent =
@@ -138,22 +138,22 @@ module _ (b : List ℕ) (acc : Accepted b) where
           → Ready b false waiting ((1 * 2 ^ c) % 2 ^ 32) (set D c m) W X N
       value-ready lay {waiting} w =
           subst (λ (S : List ℕ). Ready b false waiting ((1 * 2 ^ c) % 2 ^ 32) S W X N) set-meet
-          (narrow-ready b acc (h .stands) (h .is .holds) (h .is .store) (h .is .sized) c (2 ^ v) (o .column) left lay w)
+          (narrow-ready b acc (h .trail) (h .is .holds) (h .is .store) (h .is .sized) c (2 ^ v) (o .column) left lay w)
 
       -- what propagation comes to is the closure of the store with v set
       after-is : closureIn b (set D c m) ≡ after (bookOf b) (storeIn b D) c v
       after-is =
           ap (closureIn b) (sym set-meet)
-          ∙ ap (closure (bookOf b)) (met-store b acc (h .stands) (h .is .holds) (h .is .store) (h .is .sized) c (2 ^ v) (o .column))
+          ∙ ap (closure (bookOf b)) (met-store b acc (h .trail) (h .is .holds) (h .is .store) (h .is .sized) c (2 ^ v) (o .column))
           ∙ ap (λ (S : List ℕ). closure (bookOf b) (meet S c (2 ^ v))) (sym filled-domains)
           ∙ ap (closure (bookOf b)) (assign-meet E c v (filled-store .bits c) value-small value)
 
-      value-trail : closureIn b (set D c m) ≡ domains (bookOf b) (h .stands ++ (narrowed c (2 ^ v) ∷ []))
+      value-trail : closureIn b (set D c m) ≡ domains (bookOf b) (h .trail ++ (narrowed c (2 ^ v) ∷ []))
       value-trail =
-          ap (closureIn b) (sym set-meet) ∙ met-closure b acc (h .stands) (h .is .holds) (h .is .store) (h .is .sized) c (2 ^ v) (o .column)
+          ap (closureIn b) (sym set-meet) ∙ met-closure b acc (h .trail) (h .is .holds) (h .is .store) (h .is .sized) c (2 ^ v) (o .column)
 
       -- no store is left: no solution
-      pub value-none : {D′ W′ X′ N′ : List ℕ} {r : Bool} → Propagated b (set D c m) D′ W′ X′ N′ r → r ≡ false → (searchAfter b D c v) .solution ≡ none
+      pub value-none : {D′ W′ X′ N′ : List ℕ} {r : Bool} → Fixpoint b (set D c m) D′ W′ X′ N′ r → r ≡ false → (searchAfter b D c v) .solution ≡ none
       value-none p n =
           searched-empty (bookOf b) book-formed (after (bookOf b) E c v) (after-store (bookOf b) book-formed E filled-store c inside v value)
           (after-closed (bookOf b) book-formed E filled-store c inside v value)
@@ -162,10 +162,10 @@ module _ (b : List ℕ) (acc : Accepted b) where
           (subst (λ (S : List ℕ). has S 0 (getD x 0 0) ≡ true) (sym after-is ∙ p .failed n) (s .takes 0 (book-formed .some-column))))
 
       -- a store is left: the state of the trail with the narrow
-      module _ {D′ W′ X′ N′ : List ℕ} {r : Bool} (p : Propagated b (set D c m) D′ W′ X′ N′ r) (t : r ≡ true) where
+      module _ {D′ W′ X′ N′ : List ℕ} {r : Bool} (p : Fixpoint b (set D c m) D′ W′ X′ N′ r) (t : r ≡ true) where
         pub value-filled : FilledState b D′ W′ X′ N′
         value-filled = record {
-          stands = h .stands ++ (narrowed c (2 ^ v) ∷ []);
+          trail = h .trail ++ (narrowed c (2 ^ v) ∷ []);
           is = record { holds = rw (← value-trail) (p .state t); store = p .store; sized = p .sized };
           filled = p .filled t;
         }
@@ -322,10 +322,10 @@ module _ (b : List ℕ) (acc : Accepted b) (st : State) where
   -- it is not: no column is
   pub finish-filled : SomeState b st → (getD (st .dom) 0 0 ≡ 0 → ⊥) → FilledState b (st .dom) (st .valid) (st .index) (st .nonzero)
   unfolding domains has
-  finish-filled s n = record { stands = s .stands; is = s .is; filled = go (closed-or-empty (bookOf b) (book-formed b acc) (allowed (bookOf b) (s .stands)) (allowed-store (bookOf b) (s .stands))) }
+  finish-filled s n = record { trail = s .trail; is = s .is; filled = go (closed-or-empty (bookOf b) (book-formed b acc) (allowed (bookOf b) (s .trail)) (allowed-store (bookOf b) (s .trail))) }
     where
-      go : ConsistentStore (bookOf b) (closure (bookOf b) (allowed (bookOf b) (s .stands)))
-          ⊎ (closure (bookOf b) (allowed (bookOf b) (s .stands)) ≡ emptyStore (columnCount (bookOf b)))
+      go : ConsistentStore (bookOf b) (closure (bookOf b) (allowed (bookOf b) (s .trail)))
+          ⊎ (closure (bookOf b) (allowed (bookOf b) (s .trail)) ≡ emptyStore (columnCount (bookOf b)))
           → (c : ℕ) → c < columnsOf b → (v : ℕ) × (bit v (getD (st .dom) c 0) ≡ true)
       go (inl k) c l =
           let p = k .filled c (omega (arith, columns-count b)) in

@@ -11,9 +11,9 @@ use Rattle.model.specs.Search.{Searched, after, searched}
 use Rattle.model.specs.Stores.{has}
 use Rattle.model.specs.Tests.{tab}
 use Rattle.book.specs.Decoding.{bookOf}
-use Rattle.book.specs.Heads.{columnsOf}
+use Rattle.heads.specs.Heads.{columnsOf}
 use Rattle.engine.specs.Propagation.{isOpen, storeIn}
-use Rattle.engine.specs.Sessions.{StateIs}
+use Rattle.engine.specs.States.{StateIs}
 use Rattle.engine.specs.declared.state.State.{State}
 use Rattle.search.specs.declared.Found.{Found}
 
@@ -47,8 +47,8 @@ Finishes b st f = (L : List Entry) → StateIs b L st → FoundIs b (searched (b
 -- ---- what the search stands at
 -- the arrays are the state of some trail, and it is not failed
 pub record FilledState (b D W X N : List ℕ) : Type 0 where
-  pub stands : List Entry
-  pub is : StateIs b stands (record { dom = D; valid = W; index = X; nonzero = N })
+  pub trail : List Entry
+  pub is : StateIs b trail (record { dom = D; valid = W; index = X; nonzero = N })
   pub filled : (c : ℕ) → c < columnsOf b → (v : ℕ) × (has D c v ≡ true)
 
 -- v is a value of column c, and there are more

@@ -16,10 +16,9 @@ ghost use lib.Count.{trailingZeros};
 ghost use lib.ListN.{replicate};
 ghost use Rattle.model.specs.Tests.{FirstIn};
 ghost use Rattle.model.specs.Masks.{bit};
-ghost use Rattle.book.specs.Verdicts.{Accepted};
 ghost use Rattle.engine.specs.Layouts.{LayoutOf};
 ghost use Rattle.engine.specs.Propagation.{isOpen};
-ghost use Rattle.engine.specs.Sessions.{SomeState};
+ghost use Rattle.engine.specs.States.{SomeState};
 ghost use Rattle.search.specs.Searches.{FoundIs, searchIn, searchAfter, Finishes, FilledState, OpenValue};
 
 // What a search finds: whether there is a solution, and its values, one bit for each column.
@@ -44,7 +43,7 @@ fn open_column(dom: &[u32; 16]) -> usize
 {
     let mut c: usize = 0;
     while c < 16 {
-        if words::bits::two_or_more(dom[c]) {
+        if cells::bits::two_or_more(dom[c]) {
             return c;
         }
         c += 1;
@@ -70,7 +69,7 @@ fn pick_column(
     index: &[u8; 64],
     nonzero: &[u8; 8],
 ) -> Found
-    requires { ⌜ Accepted (now book) × LayoutOf (now book) (now begins) (now scopes) × FilledState (now book) (now dom) (now valid) (now index) (now nonzero) ⌝ }
+    requires { ⌜ LayoutOf (now book) (now begins) (now scopes) × FilledState (now book) (now dom) (now valid) (now index) (now nonzero) ⌝ }
     ensures { λ r. ⌜ FoundIs (now (book .entry)) (searchIn (now (book .entry)) (now (dom .entry))) r ⌝ }
 {
     let c = open_column(dom);
@@ -94,7 +93,7 @@ fn pick_column(
         if f.ok {
             return f;
         }
-        rest = words::bits::others(rest);
+        rest = cells::bits::others(rest);
     }
     nothing()
 }
@@ -111,7 +110,7 @@ fn try_value(
     c: usize,
     v: u32,
 ) -> Found
-    requires { ⌜ Accepted (now book) × LayoutOf (now book) (now begins) (now scopes) × FilledState (now book) (now dom) (now valid) (now index) (now nonzero) × OpenValue (now book) (now dom) c v ⌝ }
+    requires { ⌜ LayoutOf (now book) (now begins) (now scopes) × FilledState (now book) (now dom) (now valid) (now index) (now nonzero) × OpenValue (now book) (now dom) c v ⌝ }
     ensures { λ r. ⌜ FoundIs (now (book .entry)) (searchAfter (now (book .entry)) (now (dom .entry)) c v) r ⌝ }
 {
     let column = 1u32 << c;
@@ -120,8 +119,8 @@ fn try_value(
     let mut l = *valid;
     let mut x = *index;
     let mut n = *nonzero;
-    d[c] = words::bits::only(v);
-    if engine::propagate::propagate(
+    d[c] = cells::bits::only(v);
+    if engine::propagate::fixpoint(
         book,
         begins,
         scopes,
@@ -140,7 +139,7 @@ fn try_value(
 
 // A finish of the state of a trail.
 pub fn finish(book: &[u8], begins: &[usize; 8], scopes: &[u32; 8], st: State) -> Found
-    requires { ⌜ Accepted (now book) × LayoutOf (now book) (now begins) (now scopes) × SomeState (now book) st ⌝ }
+    requires { ⌜ LayoutOf (now book) (now begins) (now scopes) × SomeState (now book) st ⌝ }
     ensures { λ r. ⌜ Finishes (now (book .entry)) st r ⌝ }
 {
     let dom = st.dom;

@@ -3,17 +3,17 @@ use mathlib.Core.Path.{_∙_, _≡_, ap, refl, sym}
 use mathlib.Core.Bool.{Bool, cond, false, false≢true, not, true}
 use mathlib.Core.Logic.{_⊎_, inl, inr}
 use mathlib.Core.List.{List}
-use Prim.Native.Nat.{_*_, _+_, _<_, _^_, _≤_, suc, zero, ℕ}
+use Prim.Native.Nat.{_<_, _^_, _≤_, suc, zero, ℕ}
 use native.Mathlib.Omega.{arith}
 use lib.Bits.{bitAnd}
 use lib.Dec.{eqb, leb, ltb}
 use lib.ListN.{getD, length, List·getD-eq-default}
 use borrow.Author.Tests.{eq-eqb, eqb-true, ltb-false, ne-eqb}
-use Rattle.model.specs.Answers.{assigned, doneOf, statusOf, subsumed, subsumedBits}
-use Rattle.model.specs.Books.{Sheet, columnCount, ConsistentStore}
+use Rattle.model.specs.Answers.{assigned, doneOf, statusOf, subsumed}
+use Rattle.model.specs.Books.{columnCount, ConsistentStore, sheetAt}
 use Rattle.model.specs.Masks.{bit, maskOf, size}
 use Rattle.model.specs.Stores.{allFilled, has, emptyStore}
-use Rattle.model.specs.Tests.{allBelow, count, oneIf, tab}
+use Rattle.model.specs.Tests.{allBelow, count, tab}
 use Rattle.model.specs.Orders.{Entry, allowed, domains}
 use Rattle.model.proofs.Masks.{bit-and, bit-below, bit-maskOf, bit-of-zero, mask-ext, maskOf-lt, maskOf-same, size-zero, some-bit}
 use Rattle.model.proofs.Stores.{filled-e, filled-i}
@@ -21,14 +21,14 @@ use Rattle.model.proofs.Tests.{allBelow-e, allBelow-i, and-i, and-l, and-r, bel
 use Rattle.model.proofs.Books.{closed-or-empty}
 use Rattle.model.proofs.Trails.{allowed-store, domains-store}
 use Rattle.book.specs.Decoding.{bookOf, sheetOf}
-use Rattle.book.specs.Heads.{columnOf, columnsOf, sheetsOf, widthOf}
+use Rattle.heads.specs.Heads.{columnOf, columnsOf, sheetsOf, widthOf}
 use Rattle.book.specs.Verdicts.{Accepted}
 use Rattle.book.proofs.Decoding.{accepted-right, right-formed}
-use Rattle.book.proofs.Heads.{columns-range, sheets-most}
+use Rattle.heads.proofs.Heads.{columns-range, sheets-most}
 use Rattle.words.proofs.Places.{column-below, column-once}
 use Rattle.engine.specs.Propagation.{isOpen, storeIn}
 use Rattle.engine.specs.Layouts.{LayoutOf}
-use Rattle.engine.specs.Sessions.{StateIs}
+use Rattle.engine.specs.States.{StateIs}
 use Rattle.engine.specs.declared.state.State.{State}
 use Rattle.engine.proofs.Propagation.{at-sheet, columns-count, store-in, no-value, store-is}
 use Rattle.status.specs.Status.{ClosedDomains, SheetMasks, doneFrom, fewOpen, openColumns, statusFrom, SummaryIs}
@@ -43,11 +43,6 @@ empty-closed : (D : List ℕ) (c : ℕ) → getD D c 0 ≡ 0 → isOpen D c ≡ 
 unfolding isOpen
 empty-closed D c e = ap (λ (x : ℕ). ltb 1 (size x)) e ∙ ap (ltb 1) size-zero
 
-tab-bits : (E : List ℕ) (n : ℕ) (f : ℕ → Sheet) → subsumedBits E (tab n f) ≡ maskOf n (λ s. subsumed E (f s))
-unfolding subsumedBits tab maskOf
-tab-bits E zero f = refl
-tab-bits E (suc n) f = ap (λ (m : ℕ). oneIf (subsumed E (f 0)) + 2 * m) (tab-bits E n (λ s. f (suc s)))
-
 -- the array of sixteen masks and the store have the same masks
 pub store-entry : (b D : List ℕ) → ClosedDomains b D → (c : ℕ) → getD (storeIn b D) c 0 ≡ getD D c 0
 store-entry b D h c = go (below c (columnsOf b))
@@ -56,7 +51,7 @@ store-entry b D h c = go (below c (columnsOf b))
     go (inl l) = getD-tab 0 (columnsOf b) (λ c. getD D c 0) c l
     go (inr l) = getD-tab-out (columnsOf b) (λ c. getD D c 0) c l ∙ sym (h .past c l)
 
--- ---- settled domains
+-- ---- the domains of a closure
 module _ (b : List ℕ) (acc : Accepted b) (D : List ℕ) (h : ClosedDomains b D) where
   abbrev C : ℕ
   C = columnCount (bookOf b)
@@ -126,7 +121,7 @@ module _ (b : List ℕ) (acc : Accepted b) (D : List ℕ) (h : ClosedDomains b D
   -- ---- status
   pub status-shows : statusFrom (getD D 0 0) (openColumns D) ≡ statusOf (bookOf b) (storeIn b D)
   unfolding statusFrom statusOf
-  status-shows = go (h .settled)
+  status-shows = go (h .filled-or-empty)
     where
       go : ((c : ℕ) → c < columnsOf b → 0 < getD D c 0) ⊎ ((c : ℕ) → getD D c 0 ≡ 0)
           → _≡_ {A = ℕ} (cond (eqb (getD D 0 0) 0) 0 (cond (eqb (openColumns D) 0) 2 1)) (cond (allFilled C E) (cond (assigned (bookOf b) E) 2 1) 0)
@@ -173,18 +168,22 @@ module _ (b : List ℕ) (acc : Accepted b) (D : List ℕ) (h : ClosedDomains b D
         ∙ not-many (count (widthOf b s) (λ j. isOpen D (columnOf b s j)))
         ∙ ap (λ (n : ℕ). leb n 1) (sym (place-count s))
 
-    done-bits : maskOf (sheetsOf b) (λ s. fewOpen (getD M s 0) (openColumns D)) ≡ subsumedBits (storeIn b D) (bookOf b .sheets)
+    abbrev bits : ℕ
+    bits = maskOf (length (bookOf b .sheets)) (λ s. subsumed (storeIn b D) (sheetAt (bookOf b) s))
+
+    done-bits : maskOf (sheetsOf b) (λ s. fewOpen (getD M s 0) (openColumns D)) ≡ bits
     unfolding bookOf
     done-bits =
-        maskOf-same (sheetsOf b) _ (λ s. subsumed (storeIn b D) (sheetOf b s)) sheet-subsumed
-        ∙ sym (tab-bits (storeIn b D) (sheetsOf b) (sheetOf b))
+        maskOf-same (sheetsOf b) _ (λ s. subsumed (storeIn b D) (sheetAt (bookOf b) s))
+        (λ s l. sheet-subsumed s l ∙ ap (subsumed (storeIn b D)) (sym (getD-tab _ (sheetsOf b) (sheetOf b) s l)))
+        ∙ ap (λ (n : ℕ). maskOf n (λ s. subsumed (storeIn b D) (sheetAt (bookOf b) s))) (sym (length-tab (sheetsOf b) (sheetOf b)))
 
     pub done-shows : doneFrom (sheetsOf b) M (getD D 0 0) (openColumns D) ≡ doneOf (bookOf b) (storeIn b D)
     unfolding doneFrom doneOf
-    done-shows = go (h .settled)
+    done-shows = go (h .filled-or-empty)
       where
         go : ((c : ℕ) → c < columnsOf b → 0 < getD D c 0) ⊎ ((c : ℕ) → getD D c 0 ≡ 0)
-            → _≡_ {A = ℕ} (cond (eqb (getD D 0 0) 0) 0 (maskOf (sheetsOf b) (λ s. fewOpen (getD M s 0) (openColumns D)))) (cond (allFilled C E) (subsumedBits E (bookOf b .sheets)) 0)
+            → _≡_ {A = ℕ} (cond (eqb (getD D 0 0) 0) 0 (maskOf (sheetsOf b) (λ s. fewOpen (getD M s 0) (openColumns D)))) (cond (allFilled C E) bits 0)
         go (inl f) = rw (all-filled f, first-filled f) done-bits
         go (inr f) = rw (none-filled f, eq-eqb (getD D 0 0) 0 (f 0)) refl
 
@@ -206,7 +205,7 @@ pub few-sheets : (b : List ℕ) → Accepted b → sheetsOf b ≤ 8
 few-sheets b acc = sheets-most b (accepted-right b acc .head)
 
 pub layout-masks : {b begins M : List ℕ} → LayoutOf b begins M → SheetMasks b M
-layout-masks h = record { columns = h .columns }
+layout-masks h = record { accepted = h .accepted; columns = h .columns }
 
 -- a mask with a place is not 0
 some-value : (x v : ℕ) → bit v x ≡ true → 0 < x
@@ -226,7 +225,7 @@ module _ {b : List ℕ} {L : List Entry} {st : State} (h : StateIs b L st) where
   state-shows acc = record {
     store = h .store;
     past = λ c l. h .holds .domain c ∙ List·getD-eq-default (domains (bookOf b) L) 0 (outside c l);
-    settled = go (closed-or-empty (bookOf b) (right-formed b (accepted-right b acc)) (allowed (bookOf b) L) (allowed-store (bookOf b) L));
+    filled-or-empty = go (closed-or-empty (bookOf b) (right-formed b (accepted-right b acc)) (allowed (bookOf b) L) (allowed-store (bookOf b) L));
   }
     where
       outside : (c : ℕ) → columnsOf b ≤ c → length (domains (bookOf b) L) ≤ c
@@ -238,10 +237,11 @@ module _ {b : List ℕ} {L : List Entry} {st : State} (h : StateIs b L st) where
       go (inr e) = inr (λ c. h .holds .domain c ∙ ap (λ (D : List ℕ). getD D c 0) e ∙ no-value b acc c)
 
 -- what the masks say of the state's domains is what the model says of the trail's
-pub summarised : {b M : List ℕ} {L : List Entry} {st : State} {opens : ℕ} → Accepted b → SheetMasks b M → StateIs b L st → opens ≡ openColumns (st .dom)
+pub summarised : {b M : List ℕ} {L : List Entry} {st : State} {opens : ℕ} → SheetMasks b M → StateIs b L st → opens ≡ openColumns (st .dom)
     → (r : Summary) → r .status ≡ statusFrom (getD (st .dom) 0 0) opens → r .done ≡ doneFrom (sheetsOf b) M (getD (st .dom) 0 0) opens → SummaryIs b L r
-summarised {b} {M} {L} {st} acc k h o r e f =
+summarised {b} {M} {L} {st} k h o r e f =
     let D = st .dom in
+    let acc = k .accepted in
     record {
       status = e ∙ ap (statusFrom (getD D 0 0)) o ∙ status-shows b acc D (state-shows h acc) ∙ ap (statusOf (bookOf b)) (state-store h);
       done = f ∙ ap (doneFrom (sheetsOf b) M (getD D 0 0)) o ∙ done-shows b acc D (state-shows h acc) M k ∙ ap (doneOf (bookOf b)) (state-store h);

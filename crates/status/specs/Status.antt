@@ -12,23 +12,25 @@ use Rattle.model.specs.Masks.{maskOf, size}
 use Rattle.model.specs.Orders.{Entry, domains}
 use Rattle.model.specs.Stores.{IsStore}
 use Rattle.book.specs.Decoding.{bookOf}
-use Rattle.book.specs.Heads.{columnsOf, sheetsOf}
+use Rattle.heads.specs.Heads.{columnsOf, sheetsOf}
+use Rattle.book.specs.Verdicts.{Accepted}
 use Rattle.engine.specs.Layouts.{ColumnsIn}
 use Rattle.engine.specs.Propagation.{isOpen}
-use Rattle.engine.specs.Sessions.{StateIs}
+use Rattle.engine.specs.States.{StateIs}
 use Rattle.engine.specs.declared.state.State.{State}
 use Rattle.status.specs.declared.Summary.{Summary}
 
--- D are settled domains: those of the columns, and nothing past the last
+-- D are the domains of a closure: those of the columns, and nothing past the last
 pub record ClosedDomains (b D : List ℕ) : Type 0 where
   pub store : IsStore 16 D
   -- "zero from C on"
   pub past : (c : ℕ) → columnsOf b ≤ c → getD D c 0 ≡ 0
   -- "A sound box has no empty column"; "If there is none, every domain is empty and the session is dead."
-  pub settled : ((c : ℕ) → c < columnsOf b → 0 < getD D c 0) ⊎ ((c : ℕ) → getD D c 0 ≡ 0)
+  pub filled-or-empty : ((c : ℕ) → c < columnsOf b → 0 < getD D c 0) ⊎ ((c : ℕ) → getD D c 0 ≡ 0)
 
--- M has the columns of each sheet, bit c for column c
+-- M has the columns of each sheet of an accepted book, bit c for column c
 pub record SheetMasks (b M : List ℕ) : Type 0 where
+  pub accepted : Accepted b
   pub columns : (s : ℕ) → s < sheetsOf b → ColumnsIn b s (getD M s 0)
 
 -- ---- from masks

@@ -2,17 +2,16 @@
 //
 // Promise: `summarise` ensures `Summarises` (specs/Status.antt) of whatever trail the state is of. Both come from masks: the open columns and the
 // columns of each sheet, bit c for column c.
+use cells::bits::two_or_more;
 use engine::state::*;
-use words::bits::two_or_more;
 ghost use mathlib.Core.Path.{_≡_};
 ghost use mathlib.Core.Bool.{cond};
 ghost use Prim.Native.Nat.{_<_, _^_, _≤_};
 ghost use lib.Dec.{ltb};
 ghost use lib.ListN.{length};
 ghost use Rattle.model.specs.Masks.{size};
-ghost use Rattle.book.specs.Heads.{sheetsOf};
-ghost use Rattle.book.specs.Verdicts.{Accepted};
-ghost use Rattle.engine.specs.Sessions.{SomeState};
+ghost use Rattle.heads.specs.Heads.{sheetsOf};
+ghost use Rattle.engine.specs.States.{SomeState};
 ghost use Rattle.status.specs.Status.{SheetMasks, Summarises, doneFrom, fewOpen, openColumns, statusFrom};
 
 // Column c as a bit, if its domain d has two values or more.
@@ -71,7 +70,7 @@ fn done_from(book: &[u8], scopes: &[u32; 8], lead: u32, opens: u32) -> u8
     if lead == 0 {
         return 0;
     }
-    let n = book::head::sheets(book);
+    let n = heads::head::sheets(book);
     let mut m: u8 = 0;
     let mut s: usize = 0;
     while s < n {
@@ -88,7 +87,7 @@ pub struct Summary {
 
 // Status and done byte of a state. `scopes` has the columns of each sheet.
 pub fn summarise(book: &[u8], scopes: &[u32; 8], st: State) -> Summary
-    requires { ⌜ Accepted (now book) × SheetMasks (now book) (now scopes) × SomeState (now book) st ⌝ }
+    requires { ⌜ SheetMasks (now book) (now scopes) × SomeState (now book) st ⌝ }
     ensures { λ r. ⌜ Summarises (now (book .entry)) st r ⌝ }
 {
     let dom = st.dom;

@@ -18,9 +18,9 @@ use Rattle.model.specs.Stores.{has}
 use Rattle.model.specs.Tests.{allBelow}
 use Rattle.model.proofs.Masks.{bit-below, bit-of-zero, some-bit}
 use Rattle.model.proofs.Tests.{allBelow-last, and-assoc, and-l, and-true, below, either, or-false-l, or-false-r}
-use Rattle.book.specs.Heads.{columnOf, rowsOf}
-use Rattle.words.specs.Cells.{Kept, Readable, nearPlace}
-use Rattle.words.specs.Sheets.{AtSheet, CutBy, IndexOf, Inside, OnlySheet, Sized, WordCut, firstByte, isSet, passesAt, passesBelow, swapped, valueAt, valueIn}
+use Rattle.heads.specs.Heads.{columnOf, rowsOf}
+use Rattle.cells.specs.Cells.{Kept, Readable, nearPlace}
+use Rattle.words.specs.Sheets.{AtSheet, CutBy, IndexOf, Inside, OnlySheet, SheetWords, Sized, WordCut, firstByte, isSet, passesAt, passesBelow, swapped, valueAt, valueIn}
 use Rattle.words.proofs.Indexes.{Where, index-dropped, index-kept, left, length-swapped, names-other, neither, of-set-other, of-set-same, of-swapped, of-swapped-other, other, other-left, other-lt, other-rest, other-right, past-limit, right, set-below, where-is}
 use Rattle.words.proofs.Places.{block-there, cell-small, cell-there, eight}
 
@@ -182,15 +182,15 @@ pub record Cutting (b : List ℕ) (s p j d : ℕ) (W X N W′ X′ N′ : List �
 kept-none : {b : List ℕ} {begin from j d x y : ℕ} → x ≡ 0 → y ≡ 0 → Kept b begin from j d x y
 kept-none e f = record { at = λ k. rw (e, f, bit-of-zero) }
 
-pub cutting-start : (b : List ℕ) (s j d n : ℕ) (W X N : List ℕ) → IndexOf s W X N → Sized W X N → n ≡ getD N s 0 → Cutting b s n j d W X N W X N false
-cutting-start b s j d n W X N h z e =
+pub cutting-start : (b : List ℕ) (s j d n : ℕ) (W X N : List ℕ) → SheetWords b s W X N → n ≡ getD N s 0 → Cutting b s n j d W X N W X N false
+cutting-start b s j d n W X N h e =
     record {
-      done = λ i q l. let y = past-limit h i l (omega arith) in kept-none y y;
+      done = λ i q l. let y = past-limit (h .indexed) i l (omega arith) in kept-none y y;
       todo = λ i q. refl;
-      indexed = h;
+      indexed = h .indexed;
       limit = omega arith;
       only = only-same;
-      sized = z;
+      sized = h .sized;
       same = λ e. refl;
     }
 
@@ -235,9 +235,13 @@ module _ {b : List ℕ} {s j d : ℕ} {W X N W′ X′ N′ : List ℕ} where
       go i m (inl q) x = ap (bit k) (sym (h .todo i q)) ∙ x
       go i m (inr q) x = and-l (bit k (ofSheet W s (ofSheet X′ s i))) _ (sym (h .done i q m .at k) ∙ x)
 
-  pub cutting-inside : {p : ℕ} {any : Bool} → Cutting b s p j d W X N W′ X′ N′ any → Inside b s W → Inside b s W′
+  pub cutting-words : {p : ℕ} {any : Bool} → Cutting b s p j d W X N W′ X′ N′ any → SheetWords b s W X N → SheetWords b s W′ X′ N′
   unfolding isSet
-  cutting-inside h i = record { at = λ r l e. i .at r l (cutting-word h (r / 64) (r % 64) (omega arith) e) }
+  cutting-words h i = record {
+    inside = record { at = λ r l e. i .inside .at r l (cutting-word h (r / 64) (r % 64) (omega arith) e) };
+    indexed = h .indexed;
+    sized = h .sized;
+  }
 
   pub cutting-end : {any : Bool} → Cutting b s 0 j d W X N W′ X′ N′ any → CutBy (valueIn b s j d) s W X N W′ X′ N′
   unfolding isSet valueIn
@@ -252,13 +256,14 @@ module _ {b : List ℕ} {s j d : ℕ} {W X N W′ X′ N′ : List ℕ} where
   }
 
 -- ---- place by place
-pub cut-inside : {b : List ℕ} {test : ℕ → Bool} {s : ℕ} {W X N W′ X′ N′ : List ℕ} → CutBy test s W X N W′ X′ N′ → Inside b s W → Inside b s W′
-cut-inside c i = record { at = λ r l e. i .at r l (and-l _ _ (sym (c .at r l) ∙ e)) }
+pub cut-words : {b : List ℕ} {test : ℕ → Bool} {s : ℕ} {W X N W′ X′ N′ : List ℕ} → CutBy test s W X N W′ X′ N′ → SheetWords b s W X N → SheetWords b s W′ X′ N′
+cut-words c i =
+    record { inside = record { at = λ r l e. i .inside .at r l (and-l _ _ (sym (c .at r l) ∙ e)) }; indexed = c .indexed; sized = c .sized }
 
 -- no place, no cut
-pub cut-none : (b : List ℕ) (s changed : ℕ) (D W X N : List ℕ) → IndexOf s W X N → Sized W X N → CutBy (passesBelow b s changed D 0) s W X N W X N
+pub cut-none : (b : List ℕ) (s changed : ℕ) (D W X N : List ℕ) → SheetWords b s W X N → CutBy (passesBelow b s changed D 0) s W X N W X N
 unfolding passesBelow allBelow
-cut-none b s changed D W X N h z = record { at = λ r l. sym (and-true (isSet W s r)); indexed = h; only = only-same; sized = z }
+cut-none b s changed D W X N h = record { at = λ r l. sym (and-true (isSet W s r)); indexed = h .indexed; only = only-same; sized = h .sized }
 
 pub cut-more : (b : List ℕ) (s changed n : ℕ) (D : List ℕ) {W X N W′ X′ N′ W″ X″ N″ : List ℕ} → CutBy (passesBelow b s changed D n) s W X N W′ X′ N′
     → CutBy (passesAt b s changed D n) s W′ X′ N′ W″ X″ N″ → CutBy (passesBelow b s changed D (n + 1)) s W X N W″ X″ N″
@@ -276,11 +281,11 @@ cut-more b s changed n D {W} c e =
     }
 
 -- a column that did not change cuts nothing
-pub cut-unchanged : (b : List ℕ) (s changed j : ℕ) (D W X N : List ℕ) → IndexOf s W X N → Sized W X N → bit (columnOf b s j) changed ≡ false
+pub cut-unchanged : (b : List ℕ) (s changed j : ℕ) (D W X N : List ℕ) → SheetWords b s W X N → bit (columnOf b s j) changed ≡ false
     → CutBy (passesAt b s changed D j) s W X N W X N
 unfolding passesAt
-cut-unchanged b s changed j D W X N h z e =
-    record { at = λ r l. rw e (sym (and-true (isSet W s r))); indexed = h; only = only-same; sized = z }
+cut-unchanged b s changed j D W X N h e =
+    record { at = λ r l. rw e (sym (and-true (isSet W s r))); indexed = h .indexed; only = only-same; sized = h .sized }
 
 -- one that changed cuts by its domain
 pub cut-changed : (b : List ℕ) (s changed j d : ℕ) (D : List ℕ) {W X N W′ X′ N′ : List ℕ} → bit (columnOf b s j) changed ≡ true → d ≡ getD D (columnOf b s j) 0

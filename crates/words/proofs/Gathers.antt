@@ -14,17 +14,17 @@ use Rattle.model.specs.Books.{matches}
 use Rattle.model.specs.Masks.{bit}
 use Rattle.model.specs.States.{ofSheet}
 use Rattle.model.proofs.Books.{matches-e, matches-i}
-use Rattle.model.proofs.Masks.{bit-and, bit-below, bit-of-zero, bit-or}
+use Rattle.model.proofs.Masks.{bit-and, bit-below, bit-of-zero, bit-or, ones32}
 use Rattle.model.proofs.Tests.{and-i, below, either, or-false-l, or-false-r}
-use Rattle.words.specs.Cells.{Covered, Gathered, SmallSets, cellAt, fourOf}
-use Rattle.words.specs.Sheets.{AtSheet, Carries, IndexOf, Sized, Supported, isSet, valueAt}
+use Rattle.cells.specs.Cells.{Covered, Gathered, SmallSets, cellAt, fourOf}
+use Rattle.words.specs.Sheets.{AtSheet, SetSupport, IndexOf, Sized, Supported, isSet, valueAt}
 use Rattle.words.proofs.Cuts.{row-word}
 use Rattle.words.proofs.Indexes.{past-limit}
-use Rattle.words.proofs.Ones.{complement}
-use Rattle.words.proofs.Walks.{four-all}
+use Rattle.cells.proofs.Ones.{complement}
+use Rattle.cells.proofs.Walks.{four-all}
 
 -- of x nothing is outside y
-none-outside : (x y : ℕ) → x < 2 ^ 32 → y < 2 ^ 32 → ((v : ℕ) → bit v (bitAnd x (4294967295 - y)) ≡ false) → (v : ℕ) → bit v x ≡ true → bit v y ≡ true
+none-outside : (x y : ℕ) → x < 2 ^ 32 → y < 2 ^ 32 → ((v : ℕ) → bit v (bitAnd x (ones32 - y)) ≡ false) → (v : ℕ) → bit v x ≡ true → bit v y ≡ true
 none-outside x y lx ly h v e = go (either (bit v y))
   where
     go : (bit v y ≡ true) ⊎ (bit v y ≡ false) → bit v y ≡ true
@@ -32,11 +32,11 @@ none-outside x y lx ly h v e = go (either (bit v y))
     go (inr p) =
         absurd
         (false≢true
-        (sym (h v) ∙ bit-and v x (4294967295 - y) ∙ and-i e (complement 32 y v ly (bit-below 32 x v lx e) ∙ ap not p)))
+        (sym (h v) ∙ bit-and v x (ones32 - y) ∙ and-i e (complement 32 y v ly (bit-below 32 x v lx e) ∙ ap not p)))
 
 pub covered-four : (x0 x1 x2 x3 y0 y1 y2 y3 : ℕ) → ((x0 < 2 ^ 32) × (x1 < 2 ^ 32) × (x2 < 2 ^ 32) × (x3 < 2 ^ 32))
     → ((y0 < 2 ^ 32) × (y1 < 2 ^ 32) × (y2 < 2 ^ 32) × (y3 < 2 ^ 32))
-    → eqb (bitOr (bitOr (bitOr (bitAnd x0 (4294967295 - y0)) (bitAnd x1 (4294967295 - y1))) (bitAnd x2 (4294967295 - y2))) (bitAnd x3 (4294967295 - y3))) 0 ≡ true
+    → eqb (bitOr (bitOr (bitOr (bitAnd x0 (ones32 - y0)) (bitAnd x1 (ones32 - y1))) (bitAnd x2 (ones32 - y2))) (bitAnd x3 (ones32 - y3))) 0 ≡ true
     → Covered (fourOf x0 x1 x2 x3) (fourOf y0 y1 y2 y3)
 covered-four x0 x1 x2 x3 y0 y1 y2 y3 lx ly e =
     record {
@@ -50,24 +50,24 @@ covered-four x0 x1 x2 x3 y0 y1 y2 y3 lx ly e =
     }
   where
     b0 : ℕ → Bool
-    b0 v = bit v (bitAnd x0 (4294967295 - y0))
+    b0 v = bit v (bitAnd x0 (ones32 - y0))
 
     b1 : ℕ → Bool
-    b1 v = bit v (bitAnd x1 (4294967295 - y1))
+    b1 v = bit v (bitAnd x1 (ones32 - y1))
 
     b2 : ℕ → Bool
-    b2 v = bit v (bitAnd x2 (4294967295 - y2))
+    b2 v = bit v (bitAnd x2 (ones32 - y2))
 
     b3 : ℕ → Bool
-    b3 v = bit v (bitAnd x3 (4294967295 - y3))
+    b3 v = bit v (bitAnd x3 (ones32 - y3))
 
     whole-word : (v : ℕ) → (((b0 v || b1 v) || b2 v) || b3 v) ≡ false
     whole-word v =
         sym
-        (bit-or v (bitOr (bitOr (bitAnd x0 (4294967295 - y0)) (bitAnd x1 (4294967295 - y1))) (bitAnd x2 (4294967295 - y2))) (bitAnd x3 (4294967295 - y3))
+        (bit-or v (bitOr (bitOr (bitAnd x0 (ones32 - y0)) (bitAnd x1 (ones32 - y1))) (bitAnd x2 (ones32 - y2))) (bitAnd x3 (ones32 - y3))
         ∙ ap (λ (t : Bool). t || b3 v)
-        (bit-or v (bitOr (bitAnd x0 (4294967295 - y0)) (bitAnd x1 (4294967295 - y1))) (bitAnd x2 (4294967295 - y2))
-        ∙ ap (λ (t : Bool). t || b2 v) (bit-or v (bitAnd x0 (4294967295 - y0)) (bitAnd x1 (4294967295 - y1)))))
+        (bit-or v (bitOr (bitAnd x0 (ones32 - y0)) (bitAnd x1 (ones32 - y1))) (bitAnd x2 (ones32 - y2))
+        ∙ ap (λ (t : Bool). t || b2 v) (bit-or v (bitAnd x0 (ones32 - y0)) (bitAnd x1 (ones32 - y1)))))
         ∙ ap (bit v) (eqb-true _ 0 e)
         ∙ bit-of-zero v
 
@@ -75,7 +75,7 @@ covered-four x0 x1 x2 x3 y0 y1 y2 y3 lx ly e =
     all v = or-false-l ((b0 v || b1 v) || b2 v) (b3 v) (whole-word v)
 
 pub covered-sets : (x y : List ℕ) → SmallSets x → SmallSets y
-    → eqb (bitOr (bitOr (bitOr (bitAnd (getD x 0 0) (4294967295 - getD y 0 0)) (bitAnd (getD x 1 0) (4294967295 - getD y 1 0))) (bitAnd (getD x 2 0) (4294967295 - getD y 2 0))) (bitAnd (getD x 3 0) (4294967295 - getD y 3 0))) 0 ≡ true
+    → eqb (bitOr (bitOr (bitOr (bitAnd (getD x 0 0) (ones32 - getD y 0 0)) (bitAnd (getD x 1 0) (ones32 - getD y 1 0))) (bitAnd (getD x 2 0) (ones32 - getD y 2 0))) (bitAnd (getD x 3 0) (ones32 - getD y 3 0))) 0 ≡ true
     → Covered x y
 covered-sets x y p q e =
     let c = covered-four (getD x 0 0) (getD x 1 0) (getD x 2 0) (getD x 3 0) (getD y 0 0) (getD y 1 0) (getD y 2 0) (getD y 3 0)
@@ -104,9 +104,9 @@ no-sets = same-sets 0 (omega arith)
 matched : {x v : ℕ} → x ≡ v → matches x v ≡ true
 matched {x} {v} e = rw e (matches-i v)
 
--- every value seen is carried, and the values of the rows at positions below p have been seen
+-- every value seen has support, and the values of the rows at positions below p have been seen
 pub record Supporting (b : List ℕ) (s p : ℕ) (W X seen : List ℕ) : Type 0 where
-  pub sound : (j v : ℕ) → j < 4 → bit v (getD seen j 0) ≡ true → Carries b s W j v
+  pub sound : (j v : ℕ) → j < 4 → bit v (getD seen j 0) ≡ true → SetSupport b s W j v
   pub done : (i j k : ℕ) → i < p → j < 4 → bit k (ofSheet W s (ofSheet X s i)) ≡ true → bit (valueAt b s (64 * ofSheet X s i + k) j) (getD seen j 0) ≡ true
 
 pub supporting-start : (b : List ℕ) (s : ℕ) (W X : List ℕ) {seen : List ℕ} → seen ≡ replicate 4 0 → Supporting b s 0 W X seen
@@ -127,7 +127,7 @@ module _ {b : List ℕ} {begin s : ℕ} (a : AtSheet b begin s) {W X N : List �
       small : w < 8
       small = rw ew (h .each p (omega (arith, h .few)))
 
-      from : (j v : ℕ) → j < 4 → (bit v (getD f j 0) ≡ true) ⊎ ((k : ℕ) × (bit k word ≡ true) × (cellAt b begin (64 * w + k) j ≡ v)) → Carries b s W j v
+      from : (j v : ℕ) → j < 4 → (bit v (getD f j 0) ≡ true) ⊎ ((k : ℕ) × (bit k word ≡ true) × (cellAt b begin (64 * w + k) j ≡ v)) → SetSupport b s W j v
       from j v m (inl e) = q .sound j v m e
       from j v m (inr (k, e, u)) =
           let y : bit k (ofSheet W s w) ≡ true = rw eword at e in
@@ -148,7 +148,7 @@ module _ {b : List ℕ} {begin s : ℕ} (a : AtSheet b begin s) {W X N : List �
   unfolding isSet
   supporting-all {p} {x} {y} l q = record { sound = q .sound; complete = λ j v m e r. go j v m r }
     where
-      go : (j v : ℕ) → j < 4 → Carries b s W j v → bit v (getD y j 0) ≡ true
+      go : (j v : ℕ) → j < 4 → SetSupport b s W j v → bit v (getD y j 0) ≡ true
       go j v m r =
           let f = h .every (r .row / 64) (omega (arith, r .small)) in
           let e : 64 * (r .row / 64) + r .row % 64 ≡ r .row = omega arith in

@@ -1,8 +1,4 @@
--- The laws behind the two passes, bottom-up: bits, walks over the rows of a word, values gathered, places in the book, the index, pass 1, pass 2,
--- and both together.
-pub mod Ones
-pub mod Walks
-pub mod Collects
+-- The laws behind the two passes, bottom-up: places in the book, the index, pass 1, pass 2, and both together.
 pub mod Places
 pub mod Indexes
 pub mod Cuts

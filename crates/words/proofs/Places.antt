@@ -8,24 +8,27 @@ use native.Mathlib.Omega.{arith}
 use lib.Dec.{ltb}
 use lib.ListN.{getD, length}
 use borrow.Author.Tests.{le-ltb, lt-ltb, ltb-true}
-use Rattle.model.specs.Books.{Sheet, WellFormed}
-use Rattle.model.specs.States.{sheetAt, valid, validRow}
+use Rattle.model.specs.Books.{Sheet, WellFormed, sheetAt}
+use Rattle.model.specs.States.{valid, validRow}
 use Rattle.model.specs.Stores.{has}
 use Rattle.model.specs.Tests.{allBelow, tab}
 use Rattle.model.proofs.Rows.{in-list}
 use Rattle.model.proofs.Tests.{allBelow-e, allBelow-i, allBelow-same, and-i, and-l, and-r, below, getD-tab, length-tab}
 use Rattle.book.specs.Decoding.{bookOf, rowOf, sheetOf}
 use Rattle.fields.specs.Bytes.{byteAt}
-use Rattle.book.specs.Heads.{columnOf, rowsOf, sheetsOf, valuesOf, widthOf}
+use Rattle.heads.specs.Heads.{columnOf, rowsOf, sheetsOf, valuesOf, widthOf}
 use Rattle.book.specs.Rows.{blocksNeeded, blocksOf, placeBound, rowPlace}
 use Rattle.book.proofs.Decoding.{RightBook, accepted-right, byte-below, right-formed, rises, row-inside, value-below}
 use Rattle.book.proofs.Rows.{firstBlock-later}
 use Rattle.book.proofs.Verdicts.{right-length}
-use Rattle.book.proofs.Heads.{column-inside, columns-range, rows-most, sheets-most, values-range, width-range}
-use Rattle.words.specs.Cells.{cellAt, cellPlace}
-use Rattle.words.specs.Sheets.{AtSheet, valueAt}
+use Rattle.heads.proofs.Heads.{column-inside, columns-range, rows-most, sheets-most, values-range, width-range}
+use Rattle.cells.specs.Cells.{cellAt, cellPlace}
+use Rattle.words.specs.Sheets.{AtSheet, IsSheet, valueAt}
 
 module _ {b : List ℕ} {begin s : ℕ} (a : AtSheet b begin s) where
+  pub is-sheet : IsSheet b s
+  is-sheet = record { accepted = a .accepted; one = a .one; begins = refl }
+
   right : RightBook b
   right = accepted-right b (a .accepted)
 

@@ -16,12 +16,12 @@ use Rattle.model.specs.Stores.{IsStore, Within, has, meet, values}
 use Rattle.model.proofs.Masks.{bit-and, bit-or, bit-pow}
 use Rattle.model.proofs.Stores.{meet-has, meet-store, values-fall, within-refl, within-trans}
 use Rattle.model.proofs.Tests.{and-i, and-l, and-r, below, either, or-false-l, or-false-r}
-use Rattle.book.specs.Heads.{columnOf, widthOf}
-use Rattle.words.specs.Sheets.{AtSheet, Carries, Loses, Struck, StruckPlace, StruckTo, Supported, Wanted}
+use Rattle.heads.specs.Heads.{columnOf, widthOf}
+use Rattle.words.specs.Sheets.{AtSheet, SetSupport, Loses, Struck, StruckPlace, StruckTo, Supported, Wanted}
 use Rattle.words.proofs.Gathers.{same-sets}
 use Rattle.words.proofs.Indexes.{set-below}
 use Rattle.words.proofs.Places.{column-below, width-most}
-use Rattle.words.proofs.Walks.{shifted-one}
+use Rattle.cells.proofs.Walks.{shifted-one}
 
 pub loses-none : {D : List ℕ} → IsStore 16 D → Loses D D 0
 loses-none {D} d =
@@ -150,7 +150,7 @@ struck-all-places {b} {begin} {s} a {W} {x} {y} {D} {E} w h p =
   where
     go : (c v : ℕ) → has D c v ≡ true
         → (has E c v ≡ true) ⊎ ((j : ℕ) × (j < widthOf b s) × (j < widthOf b s) × (columnOf b s j ≡ c) × (bit v (getD y j 0) ≡ false))
-        → (has E c v ≡ true) ⊎ ((j : ℕ) × (j < widthOf b s) × (columnOf b s j ≡ c) × (Carries b s W j v → ⊥))
+        → (has E c v ≡ true) ⊎ ((j : ℕ) × (j < widthOf b s) × (columnOf b s j ≡ c) × (SetSupport b s W j v → ⊥))
     go c v e (inl f) = inl f
     go c v e (inr (j, m, l, q, f)) =
         inr (j, l, q, λ r. false≢true (sym f ∙ h .complete j v (omega (arith, width-most a .1)) (rw (w .at j l, q) e) r))

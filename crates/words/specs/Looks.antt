@@ -7,12 +7,12 @@ use mathlib.Core.Logic.{_⊎_}
 use mathlib.Core.List.{List}
 use Prim.Native.Nat.{_<_, ℕ}
 use lib.ListN.{getD}
-use Rattle.model.specs.Books.{supportedIn}
+use Rattle.model.specs.Books.{supportedIn, sheetAt}
 use Rattle.model.specs.Masks.{bit}
-use Rattle.model.specs.States.{ofSheet, sheetAt, validWord}
+use Rattle.model.specs.States.{ofSheet, validWord}
 use Rattle.model.specs.Stores.{Within, has}
 use Rattle.book.specs.Decoding.{bookOf}
-use Rattle.book.specs.Heads.{columnOf, widthOf}
+use Rattle.heads.specs.Heads.{columnOf, widthOf}
 use Rattle.words.specs.Sheets.{IndexOf, Loses, OnlySheet, Sized}
 
 -- sheet s has looked at the domains E: its words are the rows that are valid there, with their index, and every value left has support. At the opening,

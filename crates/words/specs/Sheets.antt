@@ -8,16 +8,16 @@ use mathlib.Core.Logic.{_⊎_}
 use mathlib.Core.List.{List}
 use Prim.Native.Nat.{_%_, _*_, _/_, _<_, _^_, _≤_, ℕ}
 use lib.ListN.{getD, length, set}
-use Rattle.model.specs.Books.{inDomain, matches}
+use Rattle.model.specs.Books.{inDomain, matches, sheetAt}
 use Rattle.model.specs.Masks.{bit}
-use Rattle.model.specs.States.{Indexed, ofSheet, sheetAt, validRow}
+use Rattle.model.specs.States.{Indexed, ofSheet, validRow}
 use Rattle.model.specs.Stores.{IsStore, Within, has, values}
 use Rattle.model.specs.Tests.{allBelow}
 use Rattle.book.specs.Decoding.{bookOf}
-use Rattle.book.specs.Heads.{columnOf, rowsOf, sheetsOf, widthOf}
+use Rattle.heads.specs.Heads.{columnOf, rowsOf, sheetsOf, widthOf}
 use Rattle.book.specs.Rows.{firstBlock}
 use Rattle.book.specs.Verdicts.{Accepted}
-use Rattle.words.specs.Cells.{Kept, SmallSets, cellAt}
+use Rattle.cells.specs.Cells.{Kept, SmallSets, cellAt}
 
 -- ---- the rows of a sheet
 -- the byte at which the rows of sheet s begin
@@ -33,6 +33,10 @@ pub record AtSheet (b : List ℕ) (begin s : ℕ) : Type 0 where
   pub accepted : Accepted b
   pub one : s < sheetsOf b
   pub begins : begin ≡ firstByte b s
+
+-- s is a sheet of the accepted book b
+abbrev pub IsSheet : List ℕ → ℕ → Type 0
+IsSheet b s = AtSheet b (firstByte b s) s
 
 -- row r of sheet s is set: "Row r is bit r mod 64 of word r div 64"
 unfoldable pub isSet : List ℕ → ℕ → ℕ → Bool
@@ -52,6 +56,12 @@ pub record Inside (b : List ℕ) (s : ℕ) (W : List ℕ) : Type 0 where
 -- the index and the count of sheet s keep document 01's invariant
 abbrev pub IndexOf : ℕ → List ℕ → List ℕ → List ℕ → Type 0
 IndexOf s W X N = Indexed (ofSheet X s) (getD N s 0) (ofSheet W s)
+
+-- all that every pass asks of the arrays
+pub record SheetWords (b : List ℕ) (s : ℕ) (W X N : List ℕ) : Type 0 where
+  pub inside : Inside b s W
+  pub indexed : IndexOf s W X N
+  pub sized : Sized W X N
 
 -- what the arrays hold of other sheets than s is as it was
 pub record OnlySheet (s : ℕ) (W X N W′ X′ N′ : List ℕ) : Type 0 where
@@ -96,17 +106,17 @@ unfoldable pub passesBelow : List ℕ → ℕ → ℕ → List ℕ → ℕ → �
 passesBelow b s changed D n r = allBelow n (λ j. passesAt b s changed D j r)
 
 -- ---- pass 2
--- a row that is set has a cell at place j that matches the value v
-pub record Carries (b : List ℕ) (s : ℕ) (W : List ℕ) (j v : ℕ) : Type 0 where
+-- a support of the value v at place j (document 01: a row that carries it), among the rows that are set
+pub record SetSupport (b : List ℕ) (s : ℕ) (W : List ℕ) (j v : ℕ) : Type 0 where
   pub row : ℕ
   pub small : row < 512
   pub set-row : isSet W s row ≡ true
   pub value : matches (valueAt b s row j) v ≡ true
 
--- y has at each place no value but those that are carried, and of the values in x each that is carried
+-- y has at each place no value but those with support, and of the values in x each that has it
 pub record Supported (b : List ℕ) (s : ℕ) (W x y : List ℕ) : Type 0 where
-  pub sound : (j v : ℕ) → j < 4 → bit v (getD y j 0) ≡ true → Carries b s W j v
-  pub complete : (j v : ℕ) → j < 4 → bit v (getD x j 0) ≡ true → Carries b s W j v → bit v (getD y j 0) ≡ true
+  pub sound : (j v : ℕ) → j < 4 → bit v (getD y j 0) ≡ true → SetSupport b s W j v
+  pub complete : (j v : ℕ) → j < 4 → bit v (getD x j 0) ≡ true → SetSupport b s W j v → bit v (getD y j 0) ≡ true
 
 -- the sets x are the domains at the places below n
 pub record Wanted (b : List ℕ) (s : ℕ) (D : List ℕ) (n : ℕ) (x : List ℕ) : Type 0 where
@@ -134,23 +144,22 @@ pub record StruckTo (b : List ℕ) (s n : ℕ) (y D D′ : List ℕ) (lost : ℕ
       → (has D′ c v ≡ true) ⊎ ((j : ℕ) × (j < n) × (j < widthOf b s) × (columnOf b s j ≡ c) × (bit v (getD y j 0) ≡ false))
   pub left : (j v : ℕ) → j < n → j < widthOf b s → has D′ (columnOf b s j) v ≡ true → bit v (getD y j 0) ≡ true
 
--- of each column of the sheet the values that no row carries are struck, and no other
+-- of each column of the sheet the values without support are struck, and no other
 pub record Struck (b : List ℕ) (s : ℕ) (W D D′ : List ℕ) (lost : ℕ) : Type 0 where
   pub loses : Loses D D′ lost
   pub struck : (c v : ℕ) → has D c v ≡ true
-      → (has D′ c v ≡ true) ⊎ ((j : ℕ) × (j < widthOf b s) × (columnOf b s j ≡ c) × (Carries b s W j v → ⊥))
-  pub left : (j v : ℕ) → j < widthOf b s → has D′ (columnOf b s j) v ≡ true → Carries b s W j v
+      → (has D′ c v ≡ true) ⊎ ((j : ℕ) × (j < widthOf b s) × (columnOf b s j ≡ c) × (SetSupport b s W j v → ⊥))
+  pub left : (j v : ℕ) → j < widthOf b s → has D′ (columnOf b s j) v ≡ true → SetSupport b s W j v
 
 -- ---- the rows while a sheet is looked at
 -- every row that is valid in D is set; a row that is set is a row of the sheet, with values in the domains of all columns but those in
 -- `changed`, which the sheet has not looked at since they lost a value
 pub record RowsKnown (b : List ℕ) (s changed : ℕ) (D W X N : List ℕ) : Type 0 where
-  pub inside : Inside b s W
+  pub words : SheetWords b s W X N
   pub all : (r : ℕ) → r < 512 → validRow D (sheetAt (bookOf b) s) r ≡ true → isSet W s r ≡ true
   pub seen : (r j : ℕ) → r < 512 → isSet W s r ≡ true → j < widthOf b s → bit (columnOf b s j) changed ≡ false
       → has D (columnOf b s j) (valueAt b s r j) ≡ true
-  pub indexed : IndexOf s W X N
 
--- each value of each column of the sheet is carried
-pub record AllCarried (b : List ℕ) (s : ℕ) (D W : List ℕ) : Type 0 where
-  pub at : (j v : ℕ) → j < widthOf b s → has D (columnOf b s j) v ≡ true → Carries b s W j v
+-- each value of each column of the sheet has support
+pub record AllSupported (b : List ℕ) (s : ℕ) (D W : List ℕ) : Type 0 where
+  pub at : (j v : ℕ) → j < widthOf b s → has D (columnOf b s j) v ≡ true → SetSupport b s W j v

@@ -1,12 +1,12 @@
 // Pass 1: the rows of a sheet cut by the columns that changed.
-use crate::cells::*;
 use crate::index::*;
+use cells::walk::*;
 ghost use mathlib.Core.Path.{_≡_};
 ghost use mathlib.Core.Bool.{false};
 ghost use Prim.Native.Nat.{_+_, _*_, _<_};
 ghost use lib.ListN.{getD};
-ghost use Rattle.book.specs.Heads.{widthOf};
-ghost use Rattle.words.specs.Sheets.{AtSheet, Inside, IndexOf, Sized, WordCut, CutBy, valueIn, passesAt, passesBelow};
+ghost use Rattle.heads.specs.Heads.{widthOf};
+ghost use Rattle.words.specs.Sheets.{AtSheet, SheetWords, WordCut, CutBy, valueIn, passesAt, passesBelow};
 
 // The word at position p of the index of sheet s, cut to the rows whose value at place j is in d. Whether a row was cut.
 fn cut_word(
@@ -20,7 +20,7 @@ fn cut_word(
     index: &mut [u8; 64],
     nonzero: &mut [u8; 8],
 ) -> bool
-    requires { ⌜ AtSheet (now book) begin s × (j < 4) × Inside (now book) s (now valid) × IndexOf s (now valid) (now index) (now nonzero) × Sized (now valid) (now index) (now nonzero) × (p < getD (now nonzero) s 0) ⌝ }
+    requires { ⌜ AtSheet (now book) begin s × (j < 4) × SheetWords (now book) s (now valid) (now index) (now nonzero) × (p < getD (now nonzero) s 0) ⌝ }
     ensures { λ r. ⌜ WordCut (now (book .entry)) s p j d (now (valid .entry)) (now (index .entry)) (now (nonzero .entry)) (now (valid .exit)) (now (index .exit)) (now (nonzero .exit)) × (r ≡ false → now (valid .exit) ≡ now (valid .entry)) ⌝ }
 {
     let w = word_number(index, s, p);
@@ -49,7 +49,7 @@ fn cut(
     index: &mut [u8; 64],
     nonzero: &mut [u8; 8],
 ) -> bool
-    requires { ⌜ AtSheet (now book) begin s × (j < 4) × Inside (now book) s (now valid) × IndexOf s (now valid) (now index) (now nonzero) × Sized (now valid) (now index) (now nonzero) ⌝ }
+    requires { ⌜ AtSheet (now book) begin s × (j < 4) × SheetWords (now book) s (now valid) (now index) (now nonzero) ⌝ }
     ensures { λ r. ⌜ CutBy (valueIn (now (book .entry)) s j d) s (now (valid .entry)) (now (index .entry)) (now (nonzero .entry)) (now (valid .exit)) (now (index .exit)) (now (nonzero .exit)) × (r ≡ false → now (valid .exit) ≡ now (valid .entry)) ⌝ }
 {
     let mut any = false;
@@ -73,10 +73,10 @@ fn cut_place(
     index: &mut [u8; 64],
     nonzero: &mut [u8; 8],
 ) -> bool
-    requires { ⌜ AtSheet (now book) begin s × (j < widthOf (now book) s) × Inside (now book) s (now valid) × IndexOf s (now valid) (now index) (now nonzero) × Sized (now valid) (now index) (now nonzero) ⌝ }
+    requires { ⌜ AtSheet (now book) begin s × (j < widthOf (now book) s) × SheetWords (now book) s (now valid) (now index) (now nonzero) ⌝ }
     ensures { λ r. ⌜ CutBy (passesAt (now (book .entry)) s changed (now (dom .entry)) j) s (now (valid .entry)) (now (index .entry)) (now (nonzero .entry)) (now (valid .exit)) (now (index .exit)) (now (nonzero .exit)) × (r ≡ false → now (valid .exit) ≡ now (valid .entry)) ⌝ }
 {
-    let c = book::head::column(book, s, j);
+    let c = heads::head::column(book, s, j);
     if (changed >> c) % 2 == 1 {
         return cut(book, begin, s, j, dom[c], valid, index, nonzero);
     }
@@ -95,10 +95,10 @@ pub fn cut_places(
     index: &mut [u8; 64],
     nonzero: &mut [u8; 8],
 ) -> bool
-    requires { ⌜ AtSheet (now book) begin s × Inside (now book) s (now valid) × IndexOf s (now valid) (now index) (now nonzero) × Sized (now valid) (now index) (now nonzero) ⌝ }
+    requires { ⌜ AtSheet (now book) begin s × SheetWords (now book) s (now valid) (now index) (now nonzero) ⌝ }
     ensures { λ r. ⌜ CutBy (passesBelow (now (book .entry)) s changed (now (dom .entry)) (widthOf (now (book .entry)) s)) s (now (valid .entry)) (now (index .entry)) (now (nonzero .entry)) (now (valid .exit)) (now (index .exit)) (now (nonzero .exit)) × (r ≡ false → (opening ≡ false) × (now (valid .exit) ≡ now (valid .entry))) ⌝ }
 {
-    let k = book::head::width(book, s);
+    let k = heads::head::width(book, s);
     let mut any = opening;
     let mut j: usize = 0;
     while j < k {

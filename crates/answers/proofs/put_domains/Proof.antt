@@ -18,27 +18,6 @@ abbrev μ-loop : tie.MeasureT-loop
 loop-holds : tie.Need-loop-holds Inv-loop μ-loop
 loop-holds c = (omega arith, c .before .pre, domains-none _ _)
 
-mul-put-word : tie.Need-mul-put-word Inv-loop μ-loop
-mul-put-word c = search needs
-
-add-put-word : tie.Need-add-put-word Inv-loop μ-loop
-add-put-word c = search needs
-
-mul-put-word-2 : tie.Need-mul-put-word-2 Inv-loop μ-loop
-mul-put-word-2 c = search needs
-
-element-copy-out-put-word : tie.Need-element-copy-out-put-word Inv-loop μ-loop
-element-copy-out-put-word c = search needs
-
-put-word-requires : tie.Need-put-word-requires Inv-loop μ-loop
-put-word-requires c κs = search needs
-
-add-c : tie.Need-add-c Inv-loop μ-loop
-add-c c = search needs
-
-loop-less : tie.Need-loop-less Inv-loop μ-loop
-loop-less c = search needs
-
 loop-again : tie.Need-loop-again Inv-loop μ-loop
 loop-again c =
     let at-put-word = c .before .before in
@@ -52,14 +31,11 @@ loop-again c =
       domains-more (s .args .out .now) (s .args .shown .now) (loop .c) _ (s .pre) (turn .loop-test .taken) (loop .inv .2) (at-put-word .put-word .ensures) (omega arith),
     )
 
-same-length : tie.Need-same-length Inv-loop μ-loop
-same-length c = search needs
-
 returns : tie.Need-returns Inv-loop μ-loop
 returns c = let e : c .before .loop .c ≡ 16 = omega (arith, c .loop-test .left, c .before .loop .inv .0) in rw e at (c .before .loop .inv .2)
 
 pub put-domains-spec : {M : Type 1} → statement M
 put-domains-spec =
     tie.close
-    (tie.spec Inv-loop μ-loop loop-holds mul-put-word add-put-word mul-put-word-2 element-copy-out-put-word put-word-requires add-c loop-less
-    loop-again same-length returns)
+    (tie.spec Inv-loop μ-loop loop-holds (λ c. search needs) (λ c. search needs) (λ c. search needs) (λ c. search needs) (λ c κs. search needs) (λ c. search needs) (λ c. search needs)
+    loop-again (λ c. search needs) returns)

@@ -18,10 +18,7 @@ returns c = c .refusal .ensures ∙ sym (result-check _ (c .before .before .befo
 check-head-requires : tie.Need-check-head-requires
 check-head-requires c κs = (c .before .before .before .pre, firstIn-none (c .before .first-wrong-check .ensures) (c .if1 .left))
 
-returns-2 : tie.Need-returns-2
-returns-2 c = search needs
-
 pub check-blocks-spec : {M : Type 1} → statement M
 check-blocks-spec =
     tie.close
-    (tie.spec first-wrong-check-requires refusal-requires returns check-head-requires returns-2)
+    (tie.spec first-wrong-check-requires refusal-requires returns check-head-requires (λ c. search needs))

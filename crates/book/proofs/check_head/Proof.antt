@@ -10,9 +10,6 @@ use Rattle.book.proofs.check_head.Tie as tie
 first-wrong-field-requires : tie.Need-first-wrong-field-requires
 first-wrong-field-requires c κs = head-there _ (c .before .pre .0)
 
-refusal-requires : tie.Need-refusal-requires
-refusal-requires c κs = search needs
-
 returns : tie.Need-returns
 returns c =
     let f = c .before .before .first-wrong-field in
@@ -27,10 +24,7 @@ check-rows-requires c κs =
     let l : 508 ≤ f .result = omega arith in
     (k .pre .0, k .pre .1, firstIn-none (f .ensures) l)
 
-returns-2 : tie.Need-returns-2
-returns-2 c = search needs
-
 pub check-head-spec : {M : Type 1} → statement M
 check-head-spec =
     tie.close
-    (tie.spec first-wrong-field-requires refusal-requires returns check-rows-requires returns-2)
+    (tie.spec first-wrong-field-requires (λ c κs. search needs) returns check-rows-requires (λ c. search needs))

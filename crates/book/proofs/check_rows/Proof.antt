@@ -3,15 +3,12 @@ use native.Mathlib.Omega.{arith}
 use borrow.Author.Needs.{needs}
 use Rattle.book.proofs.Rows.{fault-zero}
 use Rattle.book.proofs.Verdicts.{head-there, result-accepted, result-blocks, result-row}
-use Rattle.book.proofs.Heads.{sheets-most}
+use Rattle.heads.proofs.Heads.{sheets-most}
 use Rattle.book.proofs.check_rows.Statement.{statement}
 use Rattle.book.proofs.check_rows.Tie as tie
 
 blocks-needed-requires : tie.Need-blocks-needed-requires
 blocks-needed-requires c κs = let k = c .before in (head-there _ (k .pre .0), sheets-most _ (k .pre .2))
-
-refusal-requires : tie.Need-refusal-requires
-refusal-requires c κs = search needs
 
 returns : tie.Need-returns
 returns c = let n = c .before .before in
@@ -21,9 +18,6 @@ returns c = let n = c .before .before in
 
 fault-block-requires : tie.Need-fault-block-requires
 fault-block-requires c κs = let k = c .before .before .before in (head-there _ (k .pre .0), k .pre .2, omega arith)
-
-refusal-requires-2 : tie.Need-refusal-requires-2
-refusal-requires-2 c κs = search needs
 
 returns-2 : tie.Need-returns-2
 returns-2 c = let r = c .before .before in
@@ -36,14 +30,8 @@ returns-2 c = let r = c .before .before in
 columns-requires : tie.Need-columns-requires
 columns-requires c κs = head-there _ (c .before .before .before .before .before .pre .0)
 
-mul-result : tie.Need-mul-result
-mul-result c = search needs
-
 sheets-requires : tie.Need-sheets-requires
 sheets-requires c κs = head-there _ (c .before .before .before .before .before .before .pre .0)
-
-add-result : tie.Need-add-result
-add-result c = search needs
 
 returns-3 : tie.Need-returns-3
 returns-3 c = let r = c .before .before .before in
@@ -55,5 +43,5 @@ returns-3 c = let r = c .before .before .before in
 pub check-rows-spec : {M : Type 1} → statement M
 check-rows-spec =
     tie.close
-    (tie.spec blocks-needed-requires refusal-requires returns fault-block-requires refusal-requires-2 returns-2 columns-requires mul-result
-    sheets-requires add-result returns-3)
+    (tie.spec blocks-needed-requires (λ c κs. search needs) returns fault-block-requires (λ c κs. search needs) returns-2 columns-requires (λ c. search needs)
+    sheets-requires (λ c. search needs) returns-3)

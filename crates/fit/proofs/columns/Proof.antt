@@ -6,12 +6,6 @@ use Rattle.fit.proofs.columns.Tie as tie
 returns : tie.Need-returns
 returns c = (shown-short (c .before .before .args .book .now) (c .if1 .taken), search needs)
 
-shared-slice-read-wide : tie.Need-shared-slice-read-wide
-shared-slice-read-wide c = search needs
-
-wide-requires : tie.Need-wide-requires
-wide-requires c κs = search needs
-
 returns-2 : tie.Need-returns-2
 returns-2 c =
     let w = c .before .wide in
@@ -24,4 +18,4 @@ returns-3 c =
 
 pub columns-spec : {M : Type 1} → statement M
 columns-spec =
-    tie.close (tie.spec returns shared-slice-read-wide wide-requires returns-2 returns-3)
+    tie.close (tie.spec returns (λ c. search needs) (λ c κs. search needs) returns-2 returns-3)

@@ -3,21 +3,6 @@ use Rattle.fit.proofs.Prints.{run-printed}
 use Rattle.fit.proofs.put_run.Statement.{statement}
 use Rattle.fit.proofs.put_run.Tie as tie
 
-fitting-run-requires : tie.Need-fitting-run-requires
-fitting-run-requires c κs = search needs
-
-columns-requires : tie.Need-columns-requires
-columns-requires c κs = search needs
-
-print-requires : tie.Need-print-requires
-print-requires c κs = search needs
-
-same-length : tie.Need-same-length
-same-length c = search needs
-
-same-length-2 : tie.Need-same-length-2
-same-length-2 c = search needs
-
 returns : tie.Need-returns
 returns c =
     let p = c .before .before in
@@ -29,4 +14,4 @@ returns c =
     (t, p .print .ensures .1)
 
 pub put-run-spec : {M : Type 1} → statement M
-put-run-spec = tie.close (tie.spec fitting-run-requires columns-requires print-requires same-length same-length-2 returns)
+put-run-spec = tie.close (tie.spec (λ c κs. search needs) (λ c κs. search needs) (λ c κs. search needs) (λ c. search needs) (λ c. search needs) returns)

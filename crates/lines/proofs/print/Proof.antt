@@ -4,27 +4,12 @@ use Rattle.lines.proofs.Writing.{written-then, printed-refused, printed
 use Rattle.lines.proofs.print.Statement.{statement}
 use Rattle.lines.proofs.print.Tie as tie
 
-put-refused-requires : tie.Need-put-refused-requires
-put-refused-requires c κs = search needs
-
-same-length : tie.Need-same-length
-same-length c = search needs
-
 returns : tie.Need-returns
 returns c =
     let s = c .before .before .before .before .before .before .before in
     let w = c .before .before .put-refused .ensures in
     let e = printed-refused (s .args .number) (s .args .columns) (s .args .n) (s .args .answers .now) (c .before .before .before .before .if1 .taken) in
     (w .bytes ∙ e, w .within, w .size)
-
-put-lines-requires : tie.Need-put-lines-requires
-put-lines-requires c κs = search needs
-
-put-accepted-requires : tie.Need-put-accepted-requires
-put-accepted-requires c κs = search needs
-
-same-length-2 : tie.Need-same-length-2
-same-length-2 c = search needs
 
 returns-2 : tie.Need-returns-2
 returns-2 c =
@@ -35,4 +20,4 @@ returns-2 c =
     (w .bytes ∙ e, w .within, w .size)
 
 pub print-spec : {M : Type 1} → statement M
-print-spec = tie.close (tie.spec put-refused-requires same-length returns put-lines-requires put-accepted-requires same-length-2 returns-2)
+print-spec = tie.close (tie.spec (λ c κs. search needs) (λ c. search needs) returns (λ c κs. search needs) (λ c κs. search needs) (λ c. search needs) returns-2)

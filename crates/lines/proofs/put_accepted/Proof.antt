@@ -5,21 +5,6 @@ use Rattle.lines.proofs.Writing.{written-most, written-then}
 use Rattle.lines.proofs.put_accepted.Statement.{statement}
 use Rattle.lines.proofs.put_accepted.Tie as tie
 
-slice-aggregate-put : tie.Need-slice-aggregate-put
-slice-aggregate-put c = search needs
-
-put-requires : tie.Need-put-requires
-put-requires c κs = search needs
-
-put-field-requires : tie.Need-put-field-requires
-put-field-requires c κs = search needs
-
-put-byte-requires : tie.Need-put-byte-requires
-put-byte-requires c κs = search needs
-
-same-length : tie.Need-same-length
-same-length c = search needs
-
 returns : tie.Need-returns
 unfolding acceptedLine
 returns c =
@@ -29,4 +14,4 @@ returns c =
     written-most (written-then (written-then (word .put .ensures) (count .put-field .ensures)) (last .put-byte .ensures)) (omega arith)
 
 pub put-accepted-spec : {M : Type 1} → statement M
-put-accepted-spec = tie.close (tie.spec slice-aggregate-put put-requires put-field-requires put-byte-requires same-length returns)
+put-accepted-spec = tie.close (tie.spec (λ c. search needs) (λ c κs. search needs) (λ c κs. search needs) (λ c κs. search needs) (λ c. search needs) returns)

@@ -5,14 +5,8 @@ use Rattle.lines.proofs.Figures.{byte-short}
 use Rattle.lines.proofs.put_byte_field.Statement.{statement}
 use Rattle.lines.proofs.put_byte_field.Tie as tie
 
-put-field-requires : tie.Need-put-field-requires
-put-field-requires c κs = search needs
-
-same-length : tie.Need-same-length
-same-length c = search needs
-
 returns : tie.Need-returns
 returns c = let s = c .before .before .before .before .before in written-short (c .before .before .put-field .ensures) (omega (arith, byte-short (s .args .x) (s .fits .x .fits)))
 
 pub put-byte-field-spec : {M : Type 1} → statement M
-put-byte-field-spec = tie.close (tie.spec put-field-requires same-length returns)
+put-byte-field-spec = tie.close (tie.spec (λ c κs. search needs) (λ c. search needs) returns)

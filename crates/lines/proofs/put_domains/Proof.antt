@@ -18,18 +18,6 @@ loop-holds : tie.Need-loop-holds Inv-loop μ-loop
 unfolding domainFields
 loop-holds c = let s = c .before .before in (search needs, written-none (s .args .out .now) (s .args .at) (search needs))
 
-domain-requires : tie.Need-domain-requires Inv-loop μ-loop
-domain-requires c κs = search needs
-
-put-word-field-requires : tie.Need-put-word-field-requires Inv-loop μ-loop
-put-word-field-requires c κs = search needs
-
-add-c : tie.Need-add-c Inv-loop μ-loop
-add-c c = search needs
-
-loop-less : tie.Need-loop-less Inv-loop μ-loop
-loop-less c = search needs
-
 loop-again : tie.Need-loop-again Inv-loop μ-loop
 loop-again c =
     let m = c .before .before .before .before .before .before in
@@ -37,12 +25,9 @@ loop-again c =
     let w = c .before .before .put-word-field .ensures in
     (search needs, written-domain (m .before .before .before .args .answer .now) (m .loop .c) (d .result) (d .ensures) (m .loop .inv .1) w)
 
-same-length : tie.Need-same-length Inv-loop μ-loop
-same-length c = search needs
-
 returns : tie.Need-returns Inv-loop μ-loop
 returns c = let e : c .before .loop .c ≡ c .before .before .before .before .args .columns = omega arith in rw e at (c .before .loop .inv .1)
 
 pub put-domains-spec : {M : Type 1} → statement M
 put-domains-spec =
-    tie.close (tie.spec Inv-loop μ-loop loop-holds domain-requires put-word-field-requires add-c loop-less loop-again same-length returns)
+    tie.close (tie.spec Inv-loop μ-loop loop-holds (λ c κs. search needs) (λ c κs. search needs) (λ c. search needs) (λ c. search needs) loop-again (λ c. search needs) returns)

@@ -3,18 +3,6 @@ use Rattle.promises.proofs.Comparisons.{both-ran, list-ran}
 use Rattle.promises.proofs.run_both.Statement.{statement}
 use Rattle.promises.proofs.run_both.Tie as tie
 
-run-orders-requires : tie.Need-run-orders-requires
-run-orders-requires c κs = search needs
-
-run-orders-requires-2 : tie.Need-run-orders-requires-2
-run-orders-requires-2 c κs = search needs
-
-same-length : tie.Need-same-length
-same-length c = search needs
-
-same-length-2 : tie.Need-same-length-2
-same-length-2 c = search needs
-
 returns : tie.Need-returns
 returns c =
     let second = c .before .before .before .before in
@@ -23,4 +11,4 @@ returns c =
     both-ran (list-ran (start .pre .0) (first .run-orders .ensures)) (list-ran (start .pre .1) (second .run-orders2 .ensures))
 
 pub run-both-spec : {M : Type 1} → statement M
-run-both-spec = tie.close (tie.spec run-orders-requires run-orders-requires-2 same-length same-length-2 returns)
+run-both-spec = tie.close (tie.spec (λ c κs. search needs) (λ c κs. search needs) (λ c. search needs) (λ c. search needs) returns)

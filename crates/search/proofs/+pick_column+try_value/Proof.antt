@@ -13,13 +13,13 @@ use Rattle.search.proofs.+pick_column+try_value.Lts-pick_column as pick
 use Rattle.search.proofs.try_value.Reads as try-value
 use Rattle.search.proofs.try_value.Kinds as try-value-kinds
 use Rattle.search.proofs.+pick_column+try_value.Lts-try_value as try-value-lts
-use Rattle.engine.proofs.propagate.propagate.Reads as propagate-reads
+use Rattle.engine.proofs.propagate.fixpoint.Reads as fixpoint-reads
 use Rattle.engine.proofs.worklist.waiting_for.Reads as waiting-for-reads
 use Rattle.search.proofs.lowest_value.Reads as lowest-value-reads
 use Rattle.search.proofs.nothing.Reads as nothing-reads
 use Rattle.search.proofs.open_column.Reads as open-column-reads
-use Rattle.words.proofs.bits.only.Reads as only-reads
-use Rattle.words.proofs.bits.others.Reads as others-reads
+use Rattle.cells.proofs.bits.only.Reads as only-reads
+use Rattle.cells.proofs.bits.others.Reads as others-reads
 use Rattle.search.proofs.+pick_column+try_value.{statement}
 use Rattle.search.proofs.+pick_column+try_value.Tie.{close}
 
@@ -65,8 +65,8 @@ tries t = (
   waiting-for-reads.Learnt,
   only-reads.Asked,
   only-reads.Learnt,
-  propagate-reads.Asked,
-  propagate-reads.Learnt,
+  fixpoint-reads.Asked,
+  fixpoint-reads.Learnt,
   pick-column-below t,
   pick-column.Post,
   nothing-reads.Asked,
@@ -79,27 +79,15 @@ pick-column-Inv-loop book begins scopes dom valid index nonzero c rest₀ rest =
 abbrev pick-column-μ-loop : pick-column-lts.MeasureT-loop
 pick-column-μ-loop book begins scopes dom valid index nonzero c rest₀ rest = rest
 
-pick-column-open-column-requires : (t : ℕ) → pick-column-lts.Need-open-column-requires (picks t) (pick-column-at t) pick-column.Post pick-column-Inv-loop pick-column-μ-loop
-pick-column-open-column-requires t c κs = search needs
-
 pick-column-returns : (t : ℕ) → pick-column-lts.Need-returns (picks t) (pick-column-at t) pick-column.Post pick-column-Inv-loop pick-column-μ-loop
 pick-column-returns t c =
     let p = c .before .before .before .before .pre in
     let o = c .before .before .open-column .ensures in
-    found-assigned _ (p .1 .0) (p .1 .2) _ o (omega (arith, c .before .if1 .taken)) refl refl
-
-pick-column-mul-rest : (t : ℕ) → pick-column-lts.Need-mul-rest (picks t) (pick-column-at t) pick-column.Post pick-column-Inv-loop pick-column-μ-loop
-pick-column-mul-rest t c = search needs
-
-pick-column-element-copy-out-rest : (t : ℕ) → pick-column-lts.Need-element-copy-out-rest (picks t) (pick-column-at t) pick-column.Post pick-column-Inv-loop pick-column-μ-loop
-pick-column-element-copy-out-rest t c = search needs
+    found-assigned _ (p .1 .0 .accepted) (p .1 .1) _ o (omega (arith, c .before .if1 .taken)) refl refl
 
 pick-column-loop-holds : (t : ℕ) → pick-column-lts.Need-loop-holds (picks t) (pick-column-at t) pick-column.Post pick-column-Inv-loop pick-column-μ-loop
 pick-column-loop-holds t c =
     untried-all _ _ _
-
-pick-column-lowest-value-requires : (t : ℕ) → pick-column-lts.Need-lowest-value-requires (picks t) (pick-column-at t) pick-column.Post pick-column-Inv-loop pick-column-μ-loop
-pick-column-lowest-value-requires t c κs = search needs
 
 pick-column-try-value-requires : (t : ℕ) → pick-column-lts.Need-try-value-requires (picks t) (pick-column-at t) pick-column.Post pick-column-Inv-loop pick-column-μ-loop
 pick-column-try-value-requires t c κs =
@@ -107,7 +95,7 @@ pick-column-try-value-requires t c κs =
     let o = c .before .before .before .before .before .open-column .ensures in
     let l : c .before .before .before .before .before .open-column .result < 16 = omega (arith, o .to, c .before .before .before .before .if1 .left) in
     let u = c .before .before .loop .inv in
-    (omega (arith, p .0), (p .1 .0, p .1 .1, p .1 .2, picked-value _ (p .1 .0) (p .1 .2) o l u (c .lowest-value .ensures .1)))
+    (omega (arith, p .0), (p .1 .0, p .1 .1, picked-value _ (p .1 .0 .accepted) (p .1 .1) o l u (c .lowest-value .ensures .1)))
 
 pick-column-returns-2 : (t : ℕ) → pick-column-lts.Need-returns-2 (picks t) (pick-column-at t) pick-column.Post pick-column-Inv-loop pick-column-μ-loop
 pick-column-returns-2 t c =
@@ -116,20 +104,11 @@ pick-column-returns-2 t c =
     let l : c .before .before .before .before .before .before .before .open-column .result < 16 = omega (arith, o .to, c .before .before .before .before .before .before .if1 .left) in
     let u = c .before .before .before .before .loop .inv in
     let v = c .before .before .lowest-value .ensures in
-    picked-found _ (p .1 .0) (p .1 .2) o l u (v .0) (v .1) (c .before .try-value .ensures) (c .if2 .taken)
-
-pick-column-others-requires : (t : ℕ) → pick-column-lts.Need-others-requires (picks t) (pick-column-at t) pick-column.Post pick-column-Inv-loop pick-column-μ-loop
-pick-column-others-requires t c κs = search needs
-
-pick-column-loop-less : (t : ℕ) → pick-column-lts.Need-loop-less (picks t) (pick-column-at t) pick-column.Post pick-column-Inv-loop pick-column-μ-loop
-pick-column-loop-less t c = search needs
+    picked-found _ (p .1 .0 .accepted) (p .1 .1) o l u (v .0) (v .1) (c .before .try-value .ensures) (c .if2 .taken)
 
 pick-column-loop-again : (t : ℕ) → pick-column-lts.Need-loop-again (picks t) (pick-column-at t) pick-column.Post pick-column-Inv-loop pick-column-μ-loop
 pick-column-loop-again t c =
     untried-less (c .before .before .before .before .before .loop .inv) (c .before .before .before .lowest-value .ensures .0) (c .others .ensures .0) (c .before .before .try-value .ensures) (c .before .if2 .left)
-
-pick-column-nothing-requires : (t : ℕ) → pick-column-lts.Need-nothing-requires (picks t) (pick-column-at t) pick-column.Post pick-column-Inv-loop pick-column-μ-loop
-pick-column-nothing-requires t c κs = search needs
 
 pick-column-returns-3 : (t : ℕ) → pick-column-lts.Need-returns-3 (picks t) (pick-column-at t) pick-column.Post pick-column-Inv-loop pick-column-μ-loop
 pick-column-returns-3 t c =
@@ -137,66 +116,60 @@ pick-column-returns-3 t c =
     let o = c .before .before .before .before .before .open-column .ensures in
     let l : c .before .before .before .before .before .open-column .result < 16 = omega (arith, o .to, c .before .before .before .before .if1 .left) in
     let u = c .before .before .loop .inv in
-    found-none _ _ (c .nothing .ensures) (picked-none _ (p .1 .0) (p .1 .2) o l u (c .before .loop-test .left))
+    found-none _ _ (c .nothing .ensures) (picked-none _ (p .1 .0 .accepted) (p .1 .1) o l u (c .before .loop-test .left))
 
 try-value-cast-column : (t : ℕ) → try-value-lts.Need-cast-column (tries t) (try-value-at t) try-value.Post
 try-value-cast-column t c =
     let p = c .before .pre .1 in
-    let l = sixteen-columns _ (p .0) _ (p .3 .column) in
+    let l = sixteen-columns _ (p .0 .accepted) _ (p .2 .column) in
     search (needs, l)
 
 try-value-shl-column : (t : ℕ) → try-value-lts.Need-shl-column (tries t) (try-value-at t) try-value.Post
 try-value-shl-column t c =
     let p = c .before .pre .1 in
-    let l = sixteen-columns _ (p .0) _ (p .3 .column) in
+    let l = sixteen-columns _ (p .0 .accepted) _ (p .2 .column) in
     omega (arith, l)
-
-try-value-waiting-for-requires : (t : ℕ) → try-value-lts.Need-waiting-for-requires (tries t) (try-value-at t) try-value.Post
-try-value-waiting-for-requires t c κs = search needs
 
 try-value-only-requires : (t : ℕ) → try-value-lts.Need-only-requires (tries t) (try-value-at t) try-value.Post
 try-value-only-requires t c κs =
     let p = c .before .before .before .before .before .before .pre .1 in
-    value-small _ (p .0) (p .2) (p .3) refl
+    value-small _ (p .0 .accepted) (p .1) (p .2) refl
 
 try-value-mul-d : (t : ℕ) → try-value-lts.Need-mul-d (tries t) (try-value-at t) try-value.Post
 try-value-mul-d t c =
     let p = c .before .before .before .before .before .before .before .pre .1 in
-    let l = sixteen-columns _ (p .0) _ (p .3 .column) in
+    let l = sixteen-columns _ (p .0 .accepted) _ (p .2 .column) in
     search (needs, l)
 
 try-value-array-write-d : (t : ℕ) → try-value-lts.Need-array-write-d (tries t) (try-value-at t) try-value.Post
 try-value-array-write-d t c =
     let p = c .before .before .before .before .before .before .before .pre .1 in
-    let l = sixteen-columns _ (p .0) _ (p .3 .column) in
+    let l = sixteen-columns _ (p .0 .accepted) _ (p .2 .column) in
     l
 
-try-value-propagate-requires : (t : ℕ) → try-value-lts.Need-propagate-requires (tries t) (try-value-at t) try-value.Post
-try-value-propagate-requires t c κs =
+try-value-fixpoint-requires : (t : ℕ) → try-value-lts.Need-fixpoint-requires (tries t) (try-value-at t) try-value.Post
+try-value-fixpoint-requires t c κs =
     let p = c .before .before .before .before .before .before .before .before .before .before .before .pre .1 in
-    (p .0, p .1, value-ready _ (p .0) (p .2) (p .3) (c .before .before .before .before .only .ensures) (p .1) (c .before .before .before .before .before .before .before .before .before .waiting-for .ensures))
+    (p .0, value-ready _ (p .0 .accepted) (p .1) (p .2) (c .before .before .before .before .only .ensures) (p .0) (c .before .before .before .before .before .before .before .before .before .waiting-for .ensures))
 
 try-value-pick-column-requires : (t : ℕ) → try-value-lts.Need-pick-column-requires (tries t) (try-value-at t) try-value.Post
 try-value-pick-column-requires t c κs =
     let q = c .before .before .before .before .before .before .before .before .before .before .before .before .before .before .before .before .before .pre in
     let p = q .1 in
     let m = c .before .before .before .before .before .before .before .before .before .before .only .ensures in
-    let r = c .before .before .before .before .before .propagate .ensures in
+    let r = c .before .before .before .before .before .fixpoint .ensures in
     let k = c .before .before .before .before .if1 .taken in
-    (omega (arith, q .0, value-fewer _ (p .0) (p .2) (p .3) m r k), (p .0, p .1, value-filled _ (p .0) (p .2) (p .3) m r k))
+    (omega (arith, q .0, value-fewer _ (p .0 .accepted) (p .1) (p .2) m r k), (p .0, value-filled _ (p .0 .accepted) (p .1) (p .2) m r k))
 
 try-value-returns : (t : ℕ) → try-value-lts.Need-returns (tries t) (try-value-at t) try-value.Post
 try-value-returns t c =
     let p = c .before .before .before .before .before .before .before .before .before .before .before .before .before .before .before .before .before .before .pre .1 in
-    value-found _ (p .0) (p .2) (p .3) (c .before .before .before .before .before .before .before .before .before .before .before .only .ensures) (c .before .before .before .before .before .before .propagate .ensures) (c .before .before .before .before .before .if1 .taken) (c .pick-column .ensures)
-
-try-value-nothing-requires : (t : ℕ) → try-value-lts.Need-nothing-requires (tries t) (try-value-at t) try-value.Post
-try-value-nothing-requires t c κs = search needs
+    value-found _ (p .0 .accepted) (p .1) (p .2) (c .before .before .before .before .before .before .before .before .before .before .before .only .ensures) (c .before .before .before .before .before .before .fixpoint .ensures) (c .before .before .before .before .before .if1 .taken) (c .pick-column .ensures)
 
 try-value-returns-2 : (t : ℕ) → try-value-lts.Need-returns-2 (tries t) (try-value-at t) try-value.Post
 try-value-returns-2 t c =
     let p = c .before .before .before .before .before .before .before .before .before .before .before .before .before .before .pre .1 in
-    found-none _ _ (c .nothing .ensures) (value-none _ (p .0) (p .2) (p .3) (c .before .before .before .before .before .before .before .only .ensures) (c .before .before .propagate .ensures) (c .before .if1 .left))
+    found-none _ _ (c .nothing .ensures) (value-none _ (p .0 .accepted) (p .1) (p .2) (c .before .before .before .before .before .before .before .only .ensures) (c .before .before .fixpoint .ensures) (c .before .if1 .left))
 
 pub +pick-column+try-value-spec : {M : Type 1} → statement M
 +pick-column+try-value-spec = close μ-pick-column μ-try-value (λ t. pick-column-lts.spec (picks t)
@@ -204,30 +177,30 @@ pub +pick-column+try-value-spec : {M : Type 1} → statement M
     pick-column.Post
     pick-column-Inv-loop
     pick-column-μ-loop
-    (pick-column-open-column-requires t)
+    (λ c κs. search needs)
     (pick-column-returns t)
-    (pick-column-mul-rest t)
-    (pick-column-element-copy-out-rest t)
+    (λ c. search needs)
+    (λ c. search needs)
     (pick-column-loop-holds t)
-    (pick-column-lowest-value-requires t)
+    (λ c κs. search needs)
     (pick-column-try-value-requires t)
     (pick-column-returns-2 t)
-    (pick-column-others-requires t)
-    (pick-column-loop-less t)
+    (λ c κs. search needs)
+    (λ c. search needs)
     (pick-column-loop-again t)
-    (pick-column-nothing-requires t)
+    (λ c κs. search needs)
     (pick-column-returns-3 t))
     λ t. try-value-lts.spec (tries t)
     (try-value-at t)
     try-value.Post
     (try-value-cast-column t)
     (try-value-shl-column t)
-    (try-value-waiting-for-requires t)
+    (λ c κs. search needs)
     (try-value-only-requires t)
     (try-value-mul-d t)
     (try-value-array-write-d t)
-    (try-value-propagate-requires t)
+    (try-value-fixpoint-requires t)
     (try-value-pick-column-requires t)
     (try-value-returns t)
-    (try-value-nothing-requires t)
+    (λ c κs. search needs)
     (try-value-returns-2 t)

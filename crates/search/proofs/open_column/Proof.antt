@@ -17,24 +17,9 @@ abbrev μ-loop : tie.MeasureT-loop
 loop-holds : tie.Need-loop-holds Inv-loop μ-loop
 loop-holds c = (omega arith, none-empty (omega arith))
 
-mul-two-or-more : tie.Need-mul-two-or-more Inv-loop μ-loop
-mul-two-or-more c = search needs
-
-element-copy-out-two-or-more : tie.Need-element-copy-out-two-or-more Inv-loop μ-loop
-element-copy-out-two-or-more c = search needs
-
-two-or-more-requires : tie.Need-two-or-more-requires Inv-loop μ-loop
-two-or-more-requires c κs = search needs
-
 returns : tie.Need-returns Inv-loop μ-loop
 unfolding isOpen
 returns c = firstIn-found (omega arith) (c .before .before .before .loop-test .taken) (c .before .before .before .before .loop .inv .1) (sym (c .before .two-or-more .ensures) ∙ c .if1 .taken)
-
-add-c : tie.Need-add-c Inv-loop μ-loop
-add-c c = search needs
-
-loop-less : tie.Need-loop-less Inv-loop μ-loop
-loop-less c = search needs
 
 loop-again : tie.Need-loop-again Inv-loop μ-loop
 unfolding isOpen
@@ -46,5 +31,5 @@ returns-2 c = firstIn-end (omega arith) (c .before .loop .inv .0) (omega (arith,
 pub open-column-spec : {M : Type 1} → statement M
 open-column-spec =
     tie.close
-    (tie.spec Inv-loop μ-loop loop-holds mul-two-or-more element-copy-out-two-or-more two-or-more-requires returns add-c loop-less loop-again
+    (tie.spec Inv-loop μ-loop loop-holds (λ c. search needs) (λ c. search needs) (λ c κs. search needs) returns (λ c. search needs) (λ c. search needs) loop-again
     returns-2)

@@ -1,24 +1,15 @@
 use mathlib.Core.Path.{_∙_, sym}
 use native.Mathlib.Omega.{arith}
 use borrow.Author.Needs.{needs}
-use Rattle.words.proofs.Walks.{shifted-one}
+use Rattle.cells.proofs.Walks.{shifted-one}
 use Rattle.status.proofs.Status.{few-open, many-open}
 use Rattle.status.proofs.done_bit.Statement.{statement}
 use Rattle.status.proofs.done_bit.Tie as tie
-
-two-or-more-requires : tie.Need-two-or-more-requires
-two-or-more-requires c κs = search needs
 
 returns : tie.Need-returns
 returns c =
     let s = c .before .before in
     many-open (s .args .columns) (s .args .opens) (s .args .s) (sym (c .before .two-or-more .ensures) ∙ c .if1 .taken) (omega arith)
-
-cast-result : tie.Need-cast-result
-cast-result c = search needs
-
-shl-result : tie.Need-shl-result
-shl-result c = search needs
 
 returns-2 : tie.Need-returns-2
 returns-2 c =
@@ -27,4 +18,4 @@ returns-2 c =
     ∙ few-open (s .args .columns) (s .args .opens) (s .args .s) (sym (c .before .two-or-more .ensures) ∙ c .if1 .left) (omega arith)
 
 pub done-bit-spec : {M : Type 1} → statement M
-done-bit-spec = tie.close (tie.spec two-or-more-requires returns cast-result shl-result returns-2)
+done-bit-spec = tie.close (tie.spec (λ c κs. search needs) returns (λ c. search needs) (λ c. search needs) returns-2)

@@ -5,7 +5,7 @@ use lib.ListN.{getD}
 use borrow.Author.Needs.{needs}
 use borrow.Author.Tests.{ne-eqb}
 use Rattle.model.specs.Masks.{maskOf}
-use Rattle.book.specs.Heads.{sheetsOf}
+use Rattle.heads.specs.Heads.{sheetsOf}
 use Rattle.status.specs.Status.{doneFrom, fewOpen}
 use Rattle.status.proofs.Counts.{mask-more, mask-none}
 use Rattle.status.proofs.Status.{done-failed}
@@ -21,26 +21,8 @@ abbrev μ-loop : tie.MeasureT-loop
 returns : tie.Need-returns Inv-loop μ-loop
 returns c = let s = c .before .before in omega (arith, done-failed (sheetsOf (s .args .book .now)) (s .args .scopes .now) (s .args .lead) (s .args .opens) (c .if1 .taken))
 
-sheets-requires : tie.Need-sheets-requires Inv-loop μ-loop
-sheets-requires c κs = search needs
-
 loop-holds : tie.Need-loop-holds Inv-loop μ-loop
 loop-holds c = (omega arith, sym (mask-none _))
-
-mul-done-bit : tie.Need-mul-done-bit Inv-loop μ-loop
-mul-done-bit c = search needs
-
-element-copy-out-done-bit : tie.Need-element-copy-out-done-bit Inv-loop μ-loop
-element-copy-out-done-bit c = search needs
-
-done-bit-requires : tie.Need-done-bit-requires Inv-loop μ-loop
-done-bit-requires c κs = search needs
-
-add-s : tie.Need-add-s Inv-loop μ-loop
-add-s c = search needs
-
-loop-less : tie.Need-loop-less Inv-loop μ-loop
-loop-less c = search needs
 
 loop-again : tie.Need-loop-again Inv-loop μ-loop
 loop-again c = let loop = c .before .before .before .loop in (omega (arith, c .before .before .loop-test .taken), mask-more (loop .s) _ (loop .inv .1) (c .done-bit .ensures))
@@ -56,5 +38,5 @@ returns-2 c =
 pub done-from-spec : {M : Type 1} → statement M
 done-from-spec =
     tie.close
-    (tie.spec Inv-loop μ-loop returns sheets-requires loop-holds mul-done-bit element-copy-out-done-bit done-bit-requires add-s loop-less
+    (tie.spec Inv-loop μ-loop returns (λ c κs. search needs) loop-holds (λ c. search needs) (λ c. search needs) (λ c κs. search needs) (λ c. search needs) (λ c. search needs)
     loop-again returns-2)

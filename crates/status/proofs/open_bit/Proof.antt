@@ -1,18 +1,9 @@
 use mathlib.Core.Path.{_∙_, refl, sym}
 use native.Mathlib.Omega.{arith}
 use borrow.Author.Needs.{needs}
-use Rattle.words.proofs.Walks.{shifted-one}
+use Rattle.cells.proofs.Walks.{shifted-one}
 use Rattle.status.proofs.open_bit.Statement.{statement}
 use Rattle.status.proofs.open_bit.Tie as tie
-
-two-or-more-requires : tie.Need-two-or-more-requires
-two-or-more-requires c κs = search needs
-
-cast-result : tie.Need-cast-result
-cast-result c = search needs
-
-shl-result : tie.Need-shl-result
-shl-result c = search needs
 
 returns : tie.Need-returns
 returns c = shifted-one 32 (c .before .before .args .c) (omega (arith, c .before .before .pre)) ∙ sym (rw (sym (c .before .two-or-more .ensures) ∙ c .if1 .taken) refl)
@@ -21,4 +12,4 @@ returns-2 : tie.Need-returns-2
 returns-2 c = sym (rw (sym (c .before .two-or-more .ensures) ∙ c .if1 .left) refl)
 
 pub open-bit-spec : {M : Type 1} → statement M
-open-bit-spec = tie.close (tie.spec two-or-more-requires cast-result shl-result returns returns-2)
+open-bit-spec = tie.close (tie.spec (λ c κs. search needs) (λ c. search needs) (λ c. search needs) returns returns-2)

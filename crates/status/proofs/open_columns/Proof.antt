@@ -17,21 +17,6 @@ abbrev μ-loop : tie.MeasureT-loop
 loop-holds : tie.Need-loop-holds Inv-loop μ-loop
 loop-holds c = (omega arith, sym (mask-none _))
 
-mul-open-bit : tie.Need-mul-open-bit Inv-loop μ-loop
-mul-open-bit c = search needs
-
-element-copy-out-open-bit : tie.Need-element-copy-out-open-bit Inv-loop μ-loop
-element-copy-out-open-bit c = search needs
-
-open-bit-requires : tie.Need-open-bit-requires Inv-loop μ-loop
-open-bit-requires c κs = search needs
-
-add-c : tie.Need-add-c Inv-loop μ-loop
-add-c c = search needs
-
-loop-less : tie.Need-loop-less Inv-loop μ-loop
-loop-less c = search needs
-
 loop-again : tie.Need-loop-again Inv-loop μ-loop
 unfolding isOpen
 loop-again c = let loop = c .before .before .before .loop in (omega (arith, c .before .before .loop-test .taken), mask-more (loop .c) (isOpen (c .before .before .before .before .args .dom .now)) (loop .inv .1) (c .open-bit .ensures))
@@ -41,4 +26,4 @@ returns c = let e : c .before .loop .c ≡ 16 = omega (arith, c .loop-test .left
 
 pub open-columns-spec : {M : Type 1} → statement M
 open-columns-spec =
-    tie.close (tie.spec Inv-loop μ-loop loop-holds mul-open-bit element-copy-out-open-bit open-bit-requires add-c loop-less loop-again returns)
+    tie.close (tie.spec Inv-loop μ-loop loop-holds (λ c. search needs) (λ c. search needs) (λ c κs. search needs) (λ c. search needs) (λ c. search needs) loop-again returns)

@@ -9,12 +9,6 @@ use Rattle.book.proofs.Bounds.{high-found, joined-below, raised-found}
 use Rattle.book.proofs.row.any_over.Statement.{statement}
 use Rattle.book.proofs.row.any_over.Tie as tie
 
-joined-rows-requires : tie.Need-joined-rows-requires
-joined-rows-requires c κs = search needs
-
-below-bounds-requires : tie.Need-below-bounds-requires
-below-bounds-requires c κs = search needs
-
 returns : tie.Need-returns
 returns c =
     let j = c .before .before in
@@ -25,9 +19,6 @@ returns c =
     let below = rw (j .joined-rows .ensures) at (sym (c .before .below-bounds .ensures) ∙ c .if1 .taken) in
     record { none = λ p. joined-below b bytes (m .w) (m .x) (m .y) (m .z) 127 below; some = λ p. absurd (false≢true p) }
 
-any-high-requires : tie.Need-any-high-requires
-any-high-requires c κs = search needs
-
 returns-2 : tie.Need-returns-2
 returns-2 c =
     let j = c .before .before .before .before in
@@ -37,24 +28,6 @@ returns-2 c =
     let bytes : (i : ℕ) → byteAt b i < 256 = λ i. omega (arith, j .before .shared-slice-known .given i) in
     let high = rw (j .joined-rows .ensures) at (sym (c .before .any-high .ensures) ∙ c .if2 .taken) in
     high-found b bytes (m .w) (m .x) (m .y) (m .z) 127 (k .pre .1 .few) high
-
-sub-word-of : tie.Need-sub-word-of
-sub-word-of c = search needs
-
-sub-word-of-2 : tie.Need-sub-word-of-2
-sub-word-of-2 c = search needs
-
-sub-word-of-3 : tie.Need-sub-word-of-3
-sub-word-of-3 c = search needs
-
-sub-word-of-4 : tie.Need-sub-word-of-4
-sub-word-of-4 c = search needs
-
-word-of-requires : tie.Need-word-of-requires
-word-of-requires c κs = search needs
-
-any-raised-requires : tie.Need-any-raised-requires
-any-raised-requires c κs = search needs
 
 returns-3 : tie.Need-returns-3
 returns-3 c =
@@ -70,5 +43,5 @@ returns-3 c =
 pub any-over-spec : {M : Type 1} → statement M
 any-over-spec =
     tie.close
-    (tie.spec joined-rows-requires below-bounds-requires returns any-high-requires returns-2 sub-word-of sub-word-of-2 sub-word-of-3
-    sub-word-of-4 word-of-requires any-raised-requires returns-3)
+    (tie.spec (λ c κs. search needs) (λ c κs. search needs) returns (λ c κs. search needs) returns-2 (λ c. search needs) (λ c. search needs) (λ c. search needs)
+    (λ c. search needs) (λ c κs. search needs) (λ c κs. search needs) returns-3)

@@ -19,29 +19,11 @@ abbrev μ-loop : tie.MeasureT-loop
 loop-holds : tie.Need-loop-holds Inv-loop μ-loop
 loop-holds c = (search needs, rw high-zero (finds-empty (le-refl _)))
 
-mul-word-at : tie.Need-mul-word-at Inv-loop μ-loop
-mul-word-at c = search needs
-
-word-at-requires : tie.Need-word-at-requires Inv-loop μ-loop
-word-at-requires c κs = search needs
-
-wrapping-add-u32-requires : tie.Need-wrapping-add-u32-requires Inv-loop μ-loop
-wrapping-add-u32-requires c κs = search needs
-
-add-i : tie.Need-add-i Inv-loop μ-loop
-add-i c = search needs
-
-loop-less : tie.Need-loop-less Inv-loop μ-loop
-loop-less c = search needs
-
 loop-again : tie.Need-loop-again Inv-loop μ-loop
 loop-again c =
     let l = c .before .before .before in
     let k = l .before .before .args in
     (search needs, rw (raised-more (k .b .now) (k .k) (l .loop .i) _ _ _ (c .before .word-at .ensures) (c .wrapping-add-u32 .ensures)) (finds-more _ (search needs) (l .loop .inv .1)))
-
-any-high-requires : tie.Need-any-high-requires Inv-loop μ-loop
-any-high-requires c κs = search needs
 
 returns : tie.Need-returns Inv-loop μ-loop
 returns c = let e : c .before .before .loop .i ≡ 127 = omega arith in rw (c .any-high .ensures) (rw e at (c .before .before .loop .inv .1))
@@ -49,5 +31,5 @@ returns c = let e : c .before .before .loop .i ≡ 127 = omega arith in rw (c .a
 pub any-raised-spec : {M : Type 1} → statement M
 any-raised-spec =
     tie.close
-    (tie.spec Inv-loop μ-loop loop-holds mul-word-at word-at-requires wrapping-add-u32-requires add-i loop-less loop-again
-    any-high-requires returns)
+    (tie.spec Inv-loop μ-loop loop-holds (λ c. search needs) (λ c κs. search needs) (λ c κs. search needs) (λ c. search needs) (λ c. search needs) loop-again
+    (λ c κs. search needs) returns)

@@ -6,20 +6,11 @@ use Rattle.book.proofs.Bounds.{over-found, past-used}
 use Rattle.book.proofs.row.any_wrong.Statement.{statement}
 use Rattle.book.proofs.row.any_wrong.Tie as tie
 
-mul-any-set : tie.Need-mul-any-set
-mul-any-set c = search needs
-
-any-set-requires : tie.Need-any-set-requires
-any-set-requires c κs = search needs
-
 returns : tie.Need-returns
 returns c = let k = c .before .before .before in
     let m = k .args .m in
     let r = c .before .any-set .ensures .some (c .if1 .taken) in
     record { none = λ p. absurd (false≢true (sym p)); some = λ p. (r .0, search needs, r .2, past-used (m .w) (m .x) (m .y) (m .z) (4 * k .args .n) (r .0) (k .args .b .now) (r .1) ∙ r .3) }
-
-any-over-requires : tie.Need-any-over-requires
-any-over-requires c κs = search needs
 
 returns-2 : tie.Need-returns-2
 returns-2 c = let k = c .before .before .before .before in
@@ -28,4 +19,4 @@ returns-2 c = let k = c .before .before .before .before in
 
 pub any-wrong-spec : {M : Type 1} → statement M
 any-wrong-spec =
-    tie.close (tie.spec mul-any-set any-set-requires returns any-over-requires returns-2)
+    tie.close (tie.spec (λ c. search needs) (λ c κs. search needs) returns (λ c κs. search needs) returns-2)

@@ -6,17 +6,11 @@ use Rattle.book.specs.Bounds.{belowBounds}
 use Rattle.book.proofs.row.below_bounds.Statement.{statement}
 use Rattle.book.proofs.row.below_bounds.Tie as tie
 
-wide32-requires : tie.Need-wide32-requires
-wide32-requires c κs = search needs
-
 returns : tie.Need-returns
 unfolding belowBounds
 returns c = let k = c .before .before .args in
     let p : k .m .w ≤ k .v % 256 = omega arith in
     rw (le-ltb _ _ p)
-
-wide32-requires-2 : tie.Need-wide32-requires-2
-wide32-requires-2 c κs = search needs
 
 returns-2 : tie.Need-returns-2
 unfolding belowBounds
@@ -24,9 +18,6 @@ returns-2 c = let k = c .before .before .before .before .args in
     let p : k .v % 256 < k .m .w = omega arith in
     let q : k .m .x ≤ k .v / 256 % 256 = omega arith in
     rw (lt-ltb _ _ p, le-ltb _ _ q)
-
-wide32-requires-3 : tie.Need-wide32-requires-3
-wide32-requires-3 c κs = search needs
 
 returns-3 : tie.Need-returns-3
 unfolding belowBounds
@@ -37,9 +28,6 @@ returns-3 c =
     let q : k .v / 256 % 256 < k .m .x = omega arith in
     let r : k .m .y ≤ k .v / 65536 % 256 = omega arith in
     rw (lt-ltb _ _ p, lt-ltb _ _ q, le-ltb _ _ r)
-
-wide32-requires-4 : tie.Need-wide32-requires-4
-wide32-requires-4 c κs = search needs
 
 returns-4 : tie.Need-returns-4
 unfolding belowBounds
@@ -53,4 +41,4 @@ returns-4 c =
 
 pub below-bounds-spec : {M : Type 1} → statement M
 below-bounds-spec =
-    tie.close (tie.spec wide32-requires returns wide32-requires-2 returns-2 wide32-requires-3 returns-3 wide32-requires-4 returns-4)
+    tie.close (tie.spec (λ c κs. search needs) returns (λ c κs. search needs) returns-2 (λ c κs. search needs) returns-3 (λ c κs. search needs) returns-4)

@@ -6,15 +6,9 @@ use Rattle.book.specs.Rows.{blocksOf}
 use Rattle.book.proofs.row.blocks_of.Statement.{statement}
 use Rattle.book.proofs.row.blocks_of.Tie as tie
 
-rows-requires : tie.Need-rows-requires
-rows-requires c κs = search needs
-
-add-result : tie.Need-add-result
-add-result c = search needs
-
 returns : tie.Need-returns
 unfolding blocksOf
 returns c = (ap (λ (x : ℕ). (x + 126) / 127) (c .rows .ensures .0), omega arith)
 
 pub blocks-of-spec : {M : Type 1} → statement M
-blocks-of-spec = tie.close (tie.spec rows-requires add-result returns)
+blocks-of-spec = tie.close (tie.spec (λ c κs. search needs) (λ c. search needs) returns)

@@ -5,10 +5,10 @@ use native.Mathlib.Omega.{arith}
 use borrow.Author.Needs.{needs}
 use Rattle.model.specs.Tests.{NoneIn}
 use Rattle.model.proofs.Firsts.{firstIn-none, none-any, none-empty, none-more}
-use Rattle.book.specs.Heads.{sheetsOf}
+use Rattle.heads.specs.Heads.{sheetsOf}
 use Rattle.book.specs.Rows.{blockOf, blocksNeeded, blocksOf, firstBlock, wrongSheet}
 use Rattle.book.proofs.Rows.{fault-found, fault-none, firstBlock-later, firstBlock-more, firstBlock-zero}
-use Rattle.book.proofs.Heads.{sheets-most}
+use Rattle.heads.proofs.Heads.{sheets-most}
 use Rattle.book.proofs.row.fault_block.Statement.{statement}
 use Rattle.book.proofs.row.fault_block.Tie as tie
 
@@ -17,9 +17,6 @@ Inv-loop book n start₀ s₀ start s = (s ≤ n) × (start ≡ firstBlock book 
 
 abbrev μ-loop : tie.MeasureT-loop
 μ-loop book n start₀ s₀ start s = n - s
-
-sheets-requires : tie.Need-sheets-requires Inv-loop μ-loop
-sheets-requires c κs = search needs
 
 loop-holds : tie.Need-loop-holds Inv-loop μ-loop
 loop-holds c = (search needs, sym (firstBlock-zero _), none-empty (le-refl _))
@@ -59,12 +56,6 @@ add-start c = let l = c .before .before .before .before in
     let p : l .loop .s < sheetsOf b = omega arith in
     omega (arith, firstBlock-later b (l .loop .s) (sheetsOf b) p)
 
-add-s : tie.Need-add-s Inv-loop μ-loop
-add-s c = search needs
-
-loop-less : tie.Need-loop-less Inv-loop μ-loop
-loop-less c = search needs
-
 loop-again : tie.Need-loop-again Inv-loop μ-loop
 unfolding wrongSheet
 loop-again c =
@@ -84,5 +75,5 @@ returns-2 c =
 pub fault-block-spec : {M : Type 1} → statement M
 fault-block-spec =
     tie.close
-    (tie.spec Inv-loop μ-loop sheets-requires loop-holds blocks-of-requires first-in-sheet-requires add-result returns add-start add-s loop-less
+    (tie.spec Inv-loop μ-loop (λ c κs. search needs) loop-holds blocks-of-requires first-in-sheet-requires add-result returns add-start (λ c. search needs) (λ c. search needs)
     loop-again returns-2)

@@ -16,18 +16,6 @@ abbrev μ-loop : tie.MeasureT-loop
 loop-holds : tie.Need-loop-holds Inv-loop μ-loop
 loop-holds c = (search needs, sym (firstBlock-zero _), search needs)
 
-blocks-of-requires : tie.Need-blocks-of-requires Inv-loop μ-loop
-blocks-of-requires c κs = search needs
-
-add-n : tie.Need-add-n Inv-loop μ-loop
-add-n c = search needs
-
-add-t : tie.Need-add-t Inv-loop μ-loop
-add-t c = search needs
-
-loop-less : tie.Need-loop-less Inv-loop μ-loop
-loop-less c = search needs
-
 loop-again : tie.Need-loop-again Inv-loop μ-loop
 loop-again c = (search needs, rw (c .before .before .loop .inv .1, c .blocks-of .ensures .0) (sym (firstBlock-more _ _)), search needs)
 
@@ -36,4 +24,4 @@ returns c = let e : c .before .loop .t ≡ c .before .before .before .args .s = 
     (rw e at (c .before .loop .inv .1), search needs)
 
 pub first-block-spec : {M : Type 1} → statement M
-first-block-spec = tie.close (tie.spec Inv-loop μ-loop loop-holds blocks-of-requires add-n add-t loop-less loop-again returns)
+first-block-spec = tie.close (tie.spec Inv-loop μ-loop loop-holds (λ c κs. search needs) (λ c. search needs) (λ c. search needs) (λ c. search needs) loop-again returns)

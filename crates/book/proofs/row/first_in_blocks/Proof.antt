@@ -14,23 +14,11 @@ Inv-loop book m s start blocks q₀ q = (q ≤ blocks) × NoneIn (wrongBlock boo
 abbrev μ-loop : tie.MeasureT-loop
 μ-loop book m s start blocks q₀ q = blocks - q
 
-blocks-of-requires : tie.Need-blocks-of-requires Inv-loop μ-loop
-blocks-of-requires c κs = search needs
-
 loop-holds : tie.Need-loop-holds Inv-loop μ-loop
 loop-holds c = (search needs, none-empty (le-refl _))
 
-wrong-block-requires : tie.Need-wrong-block-requires Inv-loop μ-loop
-wrong-block-requires c κs = search needs
-
 returns : tie.Need-returns Inv-loop μ-loop
 returns c = firstIn-found (search needs) (search needs) (c .before .before .before .loop .inv .1) (sym (c .before .wrong-block .ensures) ∙ c .if1 .taken)
-
-add-q : tie.Need-add-q Inv-loop μ-loop
-add-q c = search needs
-
-loop-less : tie.Need-loop-less Inv-loop μ-loop
-loop-less c = search needs
 
 loop-again : tie.Need-loop-again Inv-loop μ-loop
 loop-again c = (search needs, none-more (c .before .before .before .loop .inv .1) (sym (c .before .wrong-block .ensures) ∙ c .if1 .left))
@@ -40,4 +28,4 @@ returns-2 c = firstIn-end (search needs) (search needs) (search needs) (c .befor
 
 pub first-in-blocks-spec : {M : Type 1} → statement M
 first-in-blocks-spec =
-    tie.close (tie.spec Inv-loop μ-loop blocks-of-requires loop-holds wrong-block-requires returns add-q loop-less loop-again returns-2)
+    tie.close (tie.spec Inv-loop μ-loop (λ c κs. search needs) loop-holds (λ c κs. search needs) returns (λ c. search needs) (λ c. search needs) loop-again returns-2)

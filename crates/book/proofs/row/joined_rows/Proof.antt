@@ -2,7 +2,7 @@ use mathlib.Core.Path.{_≡_, refl}
 use Prim.Native.Nat.{_-_, _≤_}
 use native.Mathlib.Omega.{arith}
 use borrow.Author.Needs.{needs}
-use Rattle.book.specs.Blocks.{word}
+use Rattle.heads.specs.Blocks.{word}
 use Rattle.book.specs.Bounds.{joined}
 use Rattle.book.proofs.Bounds.{joined-more}
 use Rattle.book.proofs.row.joined_rows.Statement.{statement}
@@ -18,18 +18,6 @@ loop-holds : tie.Need-loop-holds Inv-loop μ-loop
 unfolding joined
 loop-holds c = (search needs, refl)
 
-mul-word-at : tie.Need-mul-word-at Inv-loop μ-loop
-mul-word-at c = search needs
-
-word-at-requires : tie.Need-word-at-requires Inv-loop μ-loop
-word-at-requires c κs = search needs
-
-add-i : tie.Need-add-i Inv-loop μ-loop
-add-i c = search needs
-
-loop-less : tie.Need-loop-less Inv-loop μ-loop
-loop-less c = search needs
-
 loop-again : tie.Need-loop-again Inv-loop μ-loop
 loop-again c = let l = c .before .before in
     (search needs, joined-more (word (l .before .before .args .b .now)) _ _ _ (l .loop .inv .1) (c .word-at .ensures))
@@ -40,4 +28,4 @@ returns c = let e : c .before .loop .i ≡ 127 = omega arith in rw e at (c .befo
 pub joined-rows-spec : {M : Type 1} → statement M
 joined-rows-spec =
     tie.close
-    (tie.spec Inv-loop μ-loop loop-holds mul-word-at word-at-requires add-i loop-less loop-again returns)
+    (tie.spec Inv-loop μ-loop loop-holds (λ c. search needs) (λ c κs. search needs) (λ c. search needs) (λ c. search needs) loop-again returns)

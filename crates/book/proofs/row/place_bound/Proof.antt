@@ -3,9 +3,9 @@ use Prim.Native.Nat.{_≤_, _<_}
 use native.Mathlib.Omega.{arith}
 use borrow.Author.Needs.{needs}
 use borrow.Author.Tests.{lt-ltb, le-ltb}
-use Rattle.book.specs.Heads.{widthOf}
+use Rattle.heads.specs.Heads.{widthOf}
 use Rattle.book.specs.Rows.{placeBound}
-use Rattle.book.proofs.Heads.{column-inside, sheets-most, values-range}
+use Rattle.heads.proofs.Heads.{column-inside, sheets-most, values-range}
 use Rattle.book.proofs.row.place_bound.Statement.{statement}
 use Rattle.book.proofs.row.place_bound.Tie as tie
 
@@ -15,12 +15,6 @@ width-requires c κs = (search needs, omega (arith, sheets-most (c .before .args
 column-requires : tie.Need-column-requires
 column-requires c κs = let k = c .before .before .before in
     (search needs, omega (arith, sheets-most (k .args .h .now) (k .pre .1)), search needs)
-
-add-result : tie.Need-add-result
-add-result c = search needs
-
-shared-slice-read-result : tie.Need-shared-slice-read-result
-shared-slice-read-result c = search needs
 
 returns : tie.Need-returns
 unfolding placeBound
@@ -41,4 +35,4 @@ returns-2 c = let k = c .before .before .before .args in
 pub place-bound-spec : {M : Type 1} → statement M
 place-bound-spec =
     tie.close
-    (tie.spec width-requires column-requires add-result shared-slice-read-result returns returns-2)
+    (tie.spec width-requires column-requires (λ c. search needs) (λ c. search needs) returns returns-2)

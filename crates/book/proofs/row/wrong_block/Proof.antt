@@ -5,21 +5,9 @@ use Rattle.book.proofs.Bounds.{block-seen}
 use Rattle.book.proofs.row.wrong_block.Statement.{statement}
 use Rattle.book.proofs.row.wrong_block.Tie as tie
 
-add-block : tie.Need-add-block
-add-block c = search needs
-
-block-requires : tie.Need-block-requires
-block-requires c κs = search needs
-
-rows-requires : tie.Need-rows-requires
-rows-requires c κs = search needs
-
 used-rows-requires : tie.Need-used-rows-requires
 unfolding blocksOf
 used-rows-requires c κs = omega arith
-
-any-wrong-requires : tie.Need-any-wrong-requires
-any-wrong-requires c κs = search needs
 
 returns : tie.Need-returns
 returns c =
@@ -32,4 +20,4 @@ returns c =
 pub wrong-block-spec : {M : Type 1} → statement M
 wrong-block-spec =
     tie.close
-    (tie.spec add-block block-requires rows-requires used-rows-requires any-wrong-requires returns)
+    (tie.spec (λ c. search needs) (λ c κs. search needs) (λ c κs. search needs) used-rows-requires (λ c κs. search needs) returns)

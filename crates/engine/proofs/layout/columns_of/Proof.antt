@@ -1,7 +1,7 @@
 use Prim.Native.Nat.{_-_, _<_, _≤_}
 use native.Mathlib.Omega.{arith}
 use borrow.Author.Needs.{needs}
-use Rattle.book.specs.Heads.{widthOf}
+use Rattle.heads.specs.Heads.{widthOf}
 use Rattle.words.proofs.Places.{column-below, eight, head-there, width-most}
 use Rattle.engine.proofs.Propagation.{at-sheet}
 use Rattle.engine.proofs.Worklists.{ColumnsTo, columns-end, columns-more, columns-none}
@@ -27,21 +27,12 @@ column-requires c κs =
     let a = at-sheet _ (p .0) _ (p .1) in
     (head-there a, eight a, omega (arith, width-most a .1, c .before .before .width .ensures .0, c .loop-test .taken))
 
-cast-out : tie.Need-cast-out Inv-loop μ-loop
-cast-out c = search needs
-
 shl-out : tie.Need-shl-out Inv-loop μ-loop
 shl-out c =
     let start = c .before .before .before .before .before in
     let p = start .pre in
     let a = at-sheet _ (p .0) _ (p .1) in
     omega (arith, c .column .ensures .0, column-below a _ (let l : c .before .before .loop .j < widthOf (start .args .book .now) (start .args .s) = omega (arith, c .before .before .before .width .ensures .0, c .before .loop-test .taken) in l))
-
-add-j : tie.Need-add-j Inv-loop μ-loop
-add-j c = search needs
-
-loop-less : tie.Need-loop-less Inv-loop μ-loop
-loop-less c = search needs
 
 loop-again : tie.Need-loop-again Inv-loop μ-loop
 loop-again c =
@@ -58,4 +49,4 @@ returns c = columns-end (omega (arith, c .before .before .width .ensures .0, c .
 
 pub columns-of-spec : {M : Type 1} → statement M
 columns-of-spec =
-    tie.close (tie.spec Inv-loop μ-loop width-requires loop-holds column-requires cast-out shl-out add-j loop-less loop-again returns)
+    tie.close (tie.spec Inv-loop μ-loop width-requires loop-holds column-requires (λ c. search needs) shl-out (λ c. search needs) (λ c. search needs) loop-again returns)

@@ -2,7 +2,7 @@ use mathlib.Core.Path.{_≡_, sym}
 use Prim.Native.Nat.{_*_, _+_, _-_, _<_, _≤_}
 use native.Mathlib.Omega.{arith}
 use borrow.Author.Needs.{needs}
-use Rattle.book.specs.Heads.{sheetsOf}
+use Rattle.heads.specs.Heads.{sheetsOf}
 use Rattle.words.specs.Sheets.{firstByte}
 use Rattle.engine.proofs.Worklists.{LaidTo, eight-sheets, first-byte, head-length, laid-end, laid-more, laid-none, next-byte, rows-end}
 use Rattle.engine.proofs.layout.lay_out.Statement.{statement}
@@ -20,20 +20,11 @@ sheets-requires c κs = head-length _ (c .before .pre .0)
 loop-holds : tie.Need-loop-holds Inv-loop μ-loop
 loop-holds c = (laid-none _ (c .before .before .pre .1) (c .before .before .pre .2), omega arith, sym (first-byte _ (c .before .before .pre .0)))
 
-mul-begins : tie.Need-mul-begins Inv-loop μ-loop
-mul-begins c = search needs
-
 element-write-begins : tie.Need-element-write-begins Inv-loop μ-loop
 element-write-begins c =
     let start = c .before .before .before .before in
     let l : c .before .loop .s < sheetsOf (start .args .book .now) = omega (arith, c .before .before .sheets .ensures .0, c .loop-test .taken) in
     eight-sheets _ (start .pre .0) _ l
-
-columns-of-requires : tie.Need-columns-of-requires Inv-loop μ-loop
-columns-of-requires c κs = search needs
-
-mul-scopes : tie.Need-mul-scopes Inv-loop μ-loop
-mul-scopes c = search needs
 
 element-write-scopes : tie.Need-element-write-scopes Inv-loop μ-loop
 element-write-scopes c =
@@ -48,9 +39,6 @@ blocks-of-requires c κs =
     let l : c .before .before .loop .s < sheetsOf (start .args .book .now) = omega (arith, c .before .before .before .sheets .ensures .0, c .before .loop-test .taken) in
     (head-length _ (p .0), eight-sheets _ (p .0) _ l)
 
-mul-at : tie.Need-mul-at Inv-loop μ-loop
-mul-at c = search needs
-
 add-at : tie.Need-add-at Inv-loop μ-loop
 add-at c =
     let head = c .before .before .before in
@@ -58,12 +46,6 @@ add-at c =
     let l : head .loop .s < sheetsOf (start .args .book .now) = omega (arith, c .before .before .before .before .sheets .ensures .0, c .before .before .loop-test .taken) in
     let k : head .loop .at + 512 * c .blocks-of .result ≤ 16896 = rw (head .loop .inv .2, c .blocks-of .ensures .0) (rows-end _ (start .pre .0) _ l) in
     search (needs, k)
-
-add-s : tie.Need-add-s Inv-loop μ-loop
-add-s c = search needs
-
-loop-less : tie.Need-loop-less Inv-loop μ-loop
-loop-less c = search needs
 
 loop-again : tie.Need-loop-again Inv-loop μ-loop
 loop-again c =
@@ -78,10 +60,10 @@ loop-again c =
     )
 
 returns : tie.Need-returns Inv-loop μ-loop
-returns c = laid-end (omega (arith, c .before .before .sheets .ensures .0, c .loop-test .left, c .before .loop .inv .1)) (c .before .loop .inv .0)
+returns c = laid-end (c .before .before .before .before .pre .0) (omega (arith, c .before .before .sheets .ensures .0, c .loop-test .left, c .before .loop .inv .1)) (c .before .loop .inv .0)
 
 pub lay-out-spec : {M : Type 1} → statement M
 lay-out-spec =
     tie.close
-    (tie.spec Inv-loop μ-loop sheets-requires loop-holds mul-begins element-write-begins columns-of-requires mul-scopes element-write-scopes
-    blocks-of-requires mul-at add-at add-s loop-less loop-again returns)
+    (tie.spec Inv-loop μ-loop sheets-requires loop-holds (λ c. search needs) element-write-begins (λ c κs. search needs) (λ c. search needs) element-write-scopes
+    blocks-of-requires (λ c. search needs) add-at (λ c. search needs) (λ c. search needs) loop-again returns)

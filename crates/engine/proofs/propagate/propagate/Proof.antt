@@ -1,114 +1,16 @@
--- Propagation. The invariant is `Going` (Propagation): what no waiting sheet has to look at is settled. A turn looks at one sheet (`going-on`); the values left,
--- and then the sheets that wait, fall (`going-less`); when none waits the closure is reached (`going-done`).
-use mathlib.Core.Path.{_∙_, refl}
-use Prim.Native.Nat.{_*_, _+_}
-use native.Mathlib.Omega.{arith}
-use lib.ListN.{length-set}
-use lib.Seq.{getD-set-same}
 use borrow.Author.Needs.{needs}
-use borrow.Author.Tests.{not-false, not-true}
-use Rattle.model.specs.Masks.{Cleared}
-use Rattle.model.specs.Stores.{values}
-use Rattle.model.proofs.Masks.{cleared-at}
-use Rattle.engine.proofs.Propagation.{Going, at-laid, going-done, going-failed, going-less, going-on, going-start, known-as}
+use Rattle.engine.proofs.Propagation.{propagated-failed}
 use Rattle.engine.proofs.propagate.propagate.Statement.{statement}
 use Rattle.engine.proofs.propagate.propagate.Tie as tie
 
-abbrev Inv-loop : tie.InvT-loop
-Inv-loop book begins scopes waiting column opening dom₀ valid₀ index₀ nonzero₀ changed₀ left₀ dom valid index nonzero changed left =
-    Going book opening dom₀ dom valid index nonzero changed left
+returns : tie.Need-returns
+returns c = record { store = c .before .fixpoint .ensures .store; sized = c .before .fixpoint .ensures .sized; state = c .before .fixpoint .ensures .state (c .if1 .taken) }
 
-abbrev μ-loop : tie.MeasureT-loop
-μ-loop book begins scopes waiting column opening dom₀ valid₀ index₀ nonzero₀ changed₀ left₀ dom valid index nonzero changed left =
-    256 * values 16 dom + left
-
-loop-holds : tie.Need-loop-holds Inv-loop μ-loop
-loop-holds c = going-start _ (c .before .pre .0) (c .before .pre .2)
-
-first-waiting-requires : tie.Need-first-waiting-requires Inv-loop μ-loop
-first-waiting-requires c κs = search needs
-
-mul-seen : tie.Need-mul-seen Inv-loop μ-loop
-mul-seen c = search needs
-
-array-read-seen : tie.Need-array-read-seen Inv-loop μ-loop
-array-read-seen c = search needs
-
-mul-changed : tie.Need-mul-changed Inv-loop μ-loop
-mul-changed c = search needs
-
-array-write-changed : tie.Need-array-write-changed Inv-loop μ-loop
-array-write-changed c = search needs
-
-mul-revise : tie.Need-mul-revise Inv-loop μ-loop
-mul-revise c = search needs
-
-element-copy-out-revise : tie.Need-element-copy-out-revise Inv-loop μ-loop
-element-copy-out-revise c = search needs
-
-revise-requires : tie.Need-revise-requires Inv-loop μ-loop
-revise-requires c κs =
-    let at-first-waiting = c .before .before .before .before .before in
-    let head = at-first-waiting .before .before in
-    let start = head .before .before in
-    let p = start .pre in
-    let l = head .loop .inv .used _ (at-first-waiting .first-waiting .ensures .2) in
-    (at-laid _ (p .0) (p .1) _ l, known-as (λ e. rw e refl) (head .loop .inv .sheet _ l), head .loop .inv .sized, head .loop .inv .store)
-
-returns : tie.Need-returns Inv-loop μ-loop
-returns c =
-    let at-first-waiting = c .before .before .before .before .before .before .before .before in
-    let head = at-first-waiting .before .before in
-    let start = head .before .before in
-    let p = start .pre in
-    going-failed _ (p .0) (p .1) (head .loop .inv) (at-first-waiting .first-waiting .ensures .2) (c .before .before .revise .ensures) (not-true _ (c .if1 .taken))
-
-others-requires : tie.Need-others-requires Inv-loop μ-loop
-others-requires c κs = search needs
-
-wake-requires : tie.Need-wake-requires Inv-loop μ-loop
-wake-requires c κs =
-    let at-first-waiting = c .before .before .before .before .before .before .before .before .before .before in
-    let head = at-first-waiting .before .before in (
-      omega (arith, c .others .ensures .1, head .loop .inv .small),
-      at-first-waiting .first-waiting .ensures .1,
-      length-set (head .loop .changed) (at-first-waiting .first-waiting .result) 0 ∙ head .loop .inv .size,
-      getD-set-same (head .loop .changed) (at-first-waiting .first-waiting .result) 0 0 (omega (arith, head .loop .inv .size, at-first-waiting .first-waiting .ensures .1)),
-    )
-
--- ---- a turn is over: the function's start, the loop's head, the sheet that was looked at, and the look
-abbrev start : tie.After-wake Inv-loop μ-loop → tie.Start Inv-loop μ-loop
-start c = c .before .before .before .before .before .before .before .before .before .before .before .before .before .before .before
-
-abbrev head : tie.After-wake Inv-loop μ-loop → tie.At-loop Inv-loop μ-loop
-head c = c .before .before .before .before .before .before .before .before .before .before .before .before .before
-
-abbrev sheet : tie.After-wake Inv-loop μ-loop → tie.After-first-waiting Inv-loop μ-loop
-sheet c = c .before .before .before .before .before .before .before .before .before .before .before
-
-abbrev look : tie.After-wake Inv-loop μ-loop → tie.After-revise Inv-loop μ-loop
-look c = c .before .before .before .before .before
-
-cleared : (c : tie.After-wake Inv-loop μ-loop) → Cleared (head c .loop .left) (c .before .others .result) (sheet c .first-waiting .result)
-cleared c = cleared-at (sheet c .first-waiting .ensures .0) (c .before .others .ensures .0)
-
-loop-less : tie.Need-loop-less Inv-loop μ-loop
-loop-less c =
-    let p = start c .pre in
-    going-less _ (p .0) (p .1) (head c .loop .inv) (sheet c .first-waiting .ensures .2) (look c .revise .ensures) (cleared c) (not-false _ (c .before .before .before .if1 .left))
-    (omega (arith, c .before .others .ensures .1, head c .loop .inv .small)) (c .wake .ensures) (c .before .others .ensures .1)
-
-loop-again : tie.Need-loop-again Inv-loop μ-loop
-loop-again c =
-    let p = start c .pre in
-    going-on _ (p .0) (p .1) (head c .loop .inv) (sheet c .first-waiting .ensures .2) (look c .revise .ensures) (cleared c) (not-false _ (c .before .before .before .if1 .left))
-    (omega (arith, c .before .others .ensures .1, head c .loop .inv .small)) (c .wake .ensures)
-
-returns-2 : tie.Need-returns-2 Inv-loop μ-loop
-returns-2 c = going-done _ (c .before .before .before .pre .0) (c .before .before .before .pre .1) (c .before .loop .inv) (c .loop-test .left)
+returns-2 : tie.Need-returns-2
+returns-2 c =
+    let at-fixpoint = c .before .before .before .before .before in
+    let start = at-fixpoint .before .before .before .before .before .before in
+    rw (c .empty .ensures .0, c .empty .ensures .1, c .empty .ensures .2) (propagated-failed _ (start .pre .0 .accepted) (rw (c .before .before .before .before .if1 .left) at (at-fixpoint .fixpoint .ensures)))
 
 pub propagate-spec : {M : Type 1} → statement M
-propagate-spec =
-    tie.close
-    (tie.spec Inv-loop μ-loop loop-holds first-waiting-requires mul-seen array-read-seen mul-changed array-write-changed mul-revise
-    element-copy-out-revise revise-requires returns others-requires wake-requires loop-less loop-again returns-2)
+propagate-spec = tie.close (tie.spec (λ c κs. search needs) returns (λ c κs. search needs) returns-2)

@@ -2,7 +2,7 @@ use mathlib.Core.Path.{_∙_, _≡_, ap}
 use Prim.Native.Nat.{_-_, _<_, _≤_}
 use native.Mathlib.Omega.{arith}
 use borrow.Author.Needs.{needs}
-use Rattle.book.specs.Heads.{columnsOf}
+use Rattle.heads.specs.Heads.{columnsOf}
 use Rattle.engine.specs.Openings.{FullDomains, placesBelow}
 use Rattle.engine.proofs.Openings.{domains-more, domains-none}
 use Rattle.engine.proofs.Worklists.{head-length, sixteen-columns, values-few}
@@ -34,20 +34,11 @@ places-below-requires c κs =
     let l : c .before .before .loop .c < columnsOf (start .args .book .now) = omega (arith, c .before .before .before .columns .ensures .0, c .before .loop-test .taken) in
     omega (arith, c .values .ensures .0, values-few _ (start .pre .0) _ l)
 
-mul-dom : tie.Need-mul-dom Inv-loop μ-loop
-mul-dom c = search needs
-
 element-write-dom : tie.Need-element-write-dom Inv-loop μ-loop
 element-write-dom c =
     let start = c .before .before .before .before .before .before in
     let l : c .before .before .before .loop .c < columnsOf (start .args .book .now) = omega (arith, c .before .before .before .before .columns .ensures .0, c .before .before .loop-test .taken) in
     sixteen-columns _ (start .pre .0) _ l
-
-add-c : tie.Need-add-c Inv-loop μ-loop
-add-c c = search needs
-
-loop-less : tie.Need-loop-less Inv-loop μ-loop
-loop-less c = search needs
 
 loop-again : tie.Need-loop-again Inv-loop μ-loop
 loop-again c =
@@ -68,5 +59,5 @@ returns c =
 pub fill-domains-spec : {M : Type 1} → statement M
 fill-domains-spec =
     tie.close
-    (tie.spec Inv-loop μ-loop columns-requires loop-holds values-requires places-below-requires mul-dom element-write-dom add-c loop-less
+    (tie.spec Inv-loop μ-loop columns-requires loop-holds values-requires places-below-requires (λ c. search needs) element-write-dom (λ c. search needs) (λ c. search needs)
     loop-again returns)

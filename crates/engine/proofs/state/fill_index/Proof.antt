@@ -13,21 +13,6 @@ Inv-loop index₀ i₀ index i = FullIndex i index × (i ≤ 64)
 abbrev μ-loop : tie.MeasureT-loop
 μ-loop index₀ i₀ index i = 64 - i
 
-loop-holds : tie.Need-loop-holds Inv-loop μ-loop
-loop-holds c = search needs
-
-cast-index : tie.Need-cast-index Inv-loop μ-loop
-cast-index c = search needs
-
-element-write-index : tie.Need-element-write-index Inv-loop μ-loop
-element-write-index c = search needs
-
-add-i : tie.Need-add-i Inv-loop μ-loop
-add-i c = search needs
-
-loop-less : tie.Need-loop-less Inv-loop μ-loop
-loop-less c = search needs
-
 loop-again : tie.Need-loop-again Inv-loop μ-loop
 loop-again c = (index-more (c .before .loop .inv .0) (c .loop-test .taken) refl, omega (arith, c .loop-test .taken))
 
@@ -35,4 +20,4 @@ returns : tie.Need-returns Inv-loop μ-loop
 returns c = let e : c .before .loop .i ≡ 64 = omega (arith, c .loop-test .left, c .before .loop .inv .1) in rw e at (c .before .loop .inv .0)
 
 pub fill-index-spec : {M : Type 1} → statement M
-fill-index-spec = tie.close (tie.spec Inv-loop μ-loop loop-holds cast-index element-write-index add-i loop-less loop-again returns)
+fill-index-spec = tie.close (tie.spec Inv-loop μ-loop (λ c. search needs) (λ c. search needs) (λ c. search needs) (λ c. search needs) (λ c. search needs) loop-again returns)

@@ -2,7 +2,7 @@ use mathlib.Core.Path.{_≡_, refl}
 use Prim.Native.Nat.{_-_, _<_, _≤_}
 use native.Mathlib.Omega.{arith}
 use borrow.Author.Needs.{needs}
-use Rattle.book.specs.Heads.{sheetsOf}
+use Rattle.heads.specs.Heads.{sheetsOf}
 use Rattle.engine.specs.Openings.{FullRows}
 use Rattle.engine.proofs.Openings.{rows-more, rows-none}
 use Rattle.engine.proofs.Worklists.{eight-sheets, head-length, rows-few}
@@ -36,9 +36,6 @@ fill-words-requires c κs =
     let l : head .loop .s < sheetsOf (start .args .book .now) = omega (arith, c .before .before .before .before .sheets .ensures .0, c .before .before .loop-test .taken) in
     (eight-sheets _ (p .0) _ l, omega (arith, c .before .rows .ensures .0, rows-few _ (p .0) _ l), head .loop .inv .0 .words)
 
-add-nonzero : tie.Need-add-nonzero Inv-loop μ-loop
-add-nonzero c = search needs
-
 cast-nonzero : tie.Need-cast-nonzero Inv-loop μ-loop
 cast-nonzero c =
     let at-rows = c .before .before in
@@ -54,12 +51,6 @@ element-write-nonzero c =
     let start = at-sheets .before .before in
     let l : c .before .before .before .before .loop .s < sheetsOf (start .args .book .now) = omega (arith, at-sheets .sheets .ensures .0, c .before .before .before .loop-test .taken) in
     eight-sheets _ (start .pre .0) _ l
-
-add-s : tie.Need-add-s Inv-loop μ-loop
-add-s c = search needs
-
-loop-less : tie.Need-loop-less Inv-loop μ-loop
-loop-less c = search needs
 
 loop-again : tie.Need-loop-again Inv-loop μ-loop
 loop-again c =
@@ -81,5 +72,5 @@ returns c =
 pub fill-rows-spec : {M : Type 1} → statement M
 fill-rows-spec =
     tie.close
-    (tie.spec Inv-loop μ-loop sheets-requires loop-holds rows-requires fill-words-requires add-nonzero cast-nonzero element-write-nonzero add-s
-    loop-less loop-again returns)
+    (tie.spec Inv-loop μ-loop sheets-requires loop-holds rows-requires fill-words-requires (λ c. search needs) cast-nonzero element-write-nonzero (λ c. search needs)
+    (λ c. search needs) loop-again returns)

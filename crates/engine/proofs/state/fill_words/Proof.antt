@@ -16,27 +16,6 @@ abbrev μ-loop : tie.MeasureT-loop
 loop-holds : tie.Need-loop-holds Inv-loop μ-loop
 loop-holds c = (words-none _ _ (c .pre .2), omega arith)
 
-full-word-requires : tie.Need-full-word-requires Inv-loop μ-loop
-full-word-requires c κs = search needs
-
-mul-valid : tie.Need-mul-valid Inv-loop μ-loop
-mul-valid c = search needs
-
-add-valid : tie.Need-add-valid Inv-loop μ-loop
-add-valid c = search needs
-
-mul-valid-2 : tie.Need-mul-valid-2 Inv-loop μ-loop
-mul-valid-2 c = search needs
-
-element-write-valid : tie.Need-element-write-valid Inv-loop μ-loop
-element-write-valid c = search needs
-
-add-w : tie.Need-add-w Inv-loop μ-loop
-add-w c = search needs
-
-loop-less : tie.Need-loop-less Inv-loop μ-loop
-loop-less c = search needs
-
 loop-again : tie.Need-loop-again Inv-loop μ-loop
 loop-again c = (words-more (c .before .before .loop .inv .0) (c .before .before .before .pre .0) (c .before .loop-test .taken) (c .full-word .ensures), omega (arith, c .before .loop-test .taken))
 
@@ -45,4 +24,4 @@ returns c = let e : c .before .loop .w ≡ 8 = omega (arith, c .loop-test .left,
 
 pub fill-words-spec : {M : Type 1} → statement M
 fill-words-spec =
-    tie.close (tie.spec Inv-loop μ-loop loop-holds full-word-requires mul-valid add-valid mul-valid-2 element-write-valid add-w loop-less loop-again returns)
+    tie.close (tie.spec Inv-loop μ-loop loop-holds (λ c κs. search needs) (λ c. search needs) (λ c. search needs) (λ c. search needs) (λ c. search needs) (λ c. search needs) (λ c. search needs) loop-again returns)

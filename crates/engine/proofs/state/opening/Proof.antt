@@ -2,39 +2,29 @@ use mathlib.Core.Path.{_∙_, ap}
 use native.Mathlib.Omega.{arith}
 use borrow.Author.Needs.{needs}
 use Rattle.book.proofs.Decoding.{accepted-right}
-use Rattle.book.proofs.Heads.{sheets-most}
+use Rattle.heads.proofs.Heads.{sheets-most}
 use Rattle.engine.specs.Openings.{placesBelow}
 use Rattle.engine.proofs.Openings.{full-ready, opening-state}
 use Rattle.engine.proofs.Worklists.{head-length}
 use Rattle.engine.proofs.state.opening.Statement.{statement}
 use Rattle.engine.proofs.state.opening.Tie as tie
 
-fill-domains-requires : tie.Need-fill-domains-requires
-fill-domains-requires c κs = search needs
-
-fill-rows-requires : tie.Need-fill-rows-requires
-fill-rows-requires c κs = search needs
-
-fill-index-requires : tie.Need-fill-index-requires
-fill-index-requires c κs = search needs
-
 sheets-requires : tie.Need-sheets-requires
-sheets-requires c κs = head-length _ (c .before .before .before .before .before .before .before .before .pre .0)
+sheets-requires c κs = head-length _ (c .before .before .before .before .before .before .before .before .pre .accepted)
 
 places-below-requires : tie.Need-places-below-requires
-places-below-requires c κs = omega (arith, c .sheets .ensures .0, sheets-most _ (accepted-right _ (c .before .before .before .before .before .before .before .before .before .pre .0) .head))
+places-below-requires c κs = omega (arith, c .sheets .ensures .0, sheets-most _ (accepted-right _ (c .before .before .before .before .before .before .before .before .before .pre .accepted) .head))
 
-settle-requires : tie.Need-settle-requires
-settle-requires c κs =
+propagate-requires : tie.Need-propagate-requires
+propagate-requires c κs =
     let at-sheets = c .before .before .before .before .before in
     let at-fill-index = at-sheets .before in
     let at-fill-rows = at-fill-index .before .before in
     let at-fill-domains = at-fill-rows .before .before .before in
     let start = at-fill-domains .before .before .before in
     let p = start .pre in (
-      p .0,
-      p .1,
-      full-ready _ (p .0) (at-fill-domains .fill-domains .ensures) (at-fill-rows .fill-rows .ensures) (at-fill-index .fill-index .ensures) (c .before .before .before .before .places-below .ensures ∙ ap placesBelow (at-sheets .sheets .ensures .0)),
+      p,
+      full-ready _ (p .accepted) (at-fill-domains .fill-domains .ensures) (at-fill-rows .fill-rows .ensures) (at-fill-index .fill-index .ensures) (c .before .before .before .before .places-below .ensures ∙ ap placesBelow (at-sheets .sheets .ensures .0)),
     )
 
 returns : tie.Need-returns
@@ -43,8 +33,8 @@ returns c =
     let at-fill-rows = at-fill-index .before .before in
     let at-fill-domains = at-fill-rows .before .before .before in
     let start = at-fill-domains .before .before .before in
-    record { holds = opening-state _ (start .pre .0) (at-fill-domains .fill-domains .ensures) (at-fill-rows .fill-rows .ensures) (at-fill-index .fill-index .ensures) (c .settle .ensures); store = c .settle .ensures .store; sized = c .settle .ensures .sized }
+    record { holds = opening-state _ (start .pre .accepted) (at-fill-domains .fill-domains .ensures) (at-fill-rows .fill-rows .ensures) (at-fill-index .fill-index .ensures) (c .propagate .ensures); store = c .propagate .ensures .store; sized = c .propagate .ensures .sized }
 
 pub opening-spec : {M : Type 1} → statement M
 opening-spec =
-    tie.close (tie.spec fill-domains-requires fill-rows-requires fill-index-requires sheets-requires places-below-requires settle-requires returns)
+    tie.close (tie.spec (λ c κs. search needs) (λ c κs. search needs) (λ c κs. search needs) sheets-requires places-below-requires propagate-requires returns)

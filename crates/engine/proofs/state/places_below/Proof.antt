@@ -7,17 +7,8 @@ use Rattle.engine.proofs.state.places_below.Tie as tie
 returns : tie.Need-returns
 returns c = sym (rw (c .if1 .taken) places-none)
 
-cast-result : tie.Need-cast-result
-cast-result c = search needs
-
-sub-result : tie.Need-sub-result
-sub-result c = search needs
-
-shr-result : tie.Need-shr-result
-shr-result c = search needs
-
 returns-2 : tie.Need-returns-2
 returns-2 c = places-shifted (c .before .args .n) (c .before .pre)
 
 pub places-below-spec : {M : Type 1} → statement M
-places-below-spec = tie.close (tie.spec returns cast-result sub-result shr-result returns-2)
+places-below-spec = tie.close (tie.spec returns (λ c. search needs) (λ c. search needs) (λ c. search needs) returns-2)

@@ -16,24 +16,6 @@ abbrev μ-loop : tie.MeasureT-loop
 loop-holds : tie.Need-loop-holds Inv-loop μ-loop
 loop-holds c = (added-none _ (c .pre), omega arith)
 
-mul-changed : tie.Need-mul-changed Inv-loop μ-loop
-mul-changed c = search needs
-
-element-copy-out-changed : tie.Need-element-copy-out-changed Inv-loop μ-loop
-element-copy-out-changed c = search needs
-
-mul-changed-2 : tie.Need-mul-changed-2 Inv-loop μ-loop
-mul-changed-2 c = search needs
-
-element-write-changed : tie.Need-element-write-changed Inv-loop μ-loop
-element-write-changed c = search needs
-
-add-f : tie.Need-add-f Inv-loop μ-loop
-add-f c = search needs
-
-loop-less : tie.Need-loop-less Inv-loop μ-loop
-loop-less c = search needs
-
 loop-again : tie.Need-loop-again Inv-loop μ-loop
 loop-again c = (added-more (c .before .before .loop .inv .0) (c .before .loop-test .taken), omega (arith, c .before .loop-test .taken))
 
@@ -43,5 +25,5 @@ returns c = let e : c .before .loop .f ≡ 8 = omega (arith, c .loop-test .left,
 pub add-lost-spec : {M : Type 1} → statement M
 add-lost-spec =
     tie.close
-    (tie.spec Inv-loop μ-loop loop-holds mul-changed element-copy-out-changed mul-changed-2 element-write-changed add-f loop-less loop-again
+    (tie.spec Inv-loop μ-loop loop-holds (λ c. search needs) (λ c. search needs) (λ c. search needs) (λ c. search needs) (λ c. search needs) (λ c. search needs) loop-again
     returns)

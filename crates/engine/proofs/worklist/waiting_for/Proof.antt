@@ -16,21 +16,6 @@ abbrev μ-loop : tie.MeasureT-loop
 loop-holds : tie.Need-loop-holds Inv-loop μ-loop
 loop-holds c = (waiting-none _ _, omega arith)
 
-mul-waits : tie.Need-mul-waits Inv-loop μ-loop
-mul-waits c = search needs
-
-element-copy-out-waits : tie.Need-element-copy-out-waits Inv-loop μ-loop
-element-copy-out-waits c = search needs
-
-waits-requires : tie.Need-waits-requires Inv-loop μ-loop
-waits-requires c κs = search needs
-
-add-f : tie.Need-add-f Inv-loop μ-loop
-add-f c = search needs
-
-loop-less : tie.Need-loop-less Inv-loop μ-loop
-loop-less c = search needs
-
 loop-again : tie.Need-loop-again Inv-loop μ-loop
 loop-again c = (waiting-more (c .before .before .before .loop .inv .0) (c .before .before .loop-test .taken) (c .waits .ensures .0) (c .waits .ensures .1), omega (arith, c .before .before .loop-test .taken))
 
@@ -39,4 +24,4 @@ returns c = let e : c .before .loop .f ≡ 8 = omega (arith, c .loop-test .left,
 
 pub waiting-for-spec : {M : Type 1} → statement M
 waiting-for-spec =
-    tie.close (tie.spec Inv-loop μ-loop loop-holds mul-waits element-copy-out-waits waits-requires add-f loop-less loop-again returns)
+    tie.close (tie.spec Inv-loop μ-loop loop-holds (λ c. search needs) (λ c. search needs) (λ c κs. search needs) (λ c. search needs) (λ c. search needs) loop-again returns)

@@ -3,7 +3,7 @@ use native.Mathlib.Omega.{arith}
 use lib.Pow.{pow-lt}
 use borrow.Author.Needs.{needs}
 use borrow.Author.Tests.{eq-eqb, ne-eqb}
-use Rattle.words.proofs.Walks.{shifted-one}
+use Rattle.cells.proofs.Walks.{shifted-one}
 use Rattle.engine.specs.Worklists.{touches, waitsBit}
 use Rattle.engine.proofs.worklist.waits.Statement.{statement}
 use Rattle.engine.proofs.worklist.waits.Tie as tie
@@ -12,15 +12,9 @@ returns : tie.Need-returns
 unfolding waitsBit touches
 returns c = (rw (eq-eqb _ _ (c .if1 .taken)) refl, omega arith)
 
-cast-result : tie.Need-cast-result
-cast-result c = search needs
-
-shl-result : tie.Need-shl-result
-shl-result c = search needs
-
 returns-2 : tie.Need-returns-2
 unfolding waitsBit touches
 returns-2 c = let e = shifted-one 32 (c .before .args .f) (omega (arith, c .before .pre)) in (e ∙ sym (rw (ne-eqb _ _ (c .if1 .left)) refl), rw e (pow-lt (c .before .pre)))
 
 pub waits-spec : {M : Type 1} → statement M
-waits-spec = tie.close (tie.spec returns cast-result shl-result returns-2)
+waits-spec = tie.close (tie.spec returns (λ c. search needs) (λ c. search needs) returns-2)

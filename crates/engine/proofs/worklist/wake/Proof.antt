@@ -7,24 +7,6 @@ use Rattle.engine.proofs.worklist.wake.Tie as tie
 returns : tie.Need-returns
 returns c = rw (c .if1 .taken) (woken-none (c .before .pre .0) (c .before .pre .2) (c .before .pre .3))
 
-add-lost-requires : tie.Need-add-lost-requires
-add-lost-requires c κs = search needs
-
-mul-changed : tie.Need-mul-changed
-mul-changed c = search needs
-
-element-write-changed : tie.Need-element-write-changed
-element-write-changed c = search needs
-
-waiting-for-requires : tie.Need-waiting-for-requires
-waiting-for-requires c κs = search needs
-
-cast-result : tie.Need-cast-result
-cast-result c = search needs
-
-shl-result : tie.Need-shl-result
-shl-result c = search needs
-
 returns-2 : tie.Need-returns-2
 returns-2 c =
     let start = c .before .before .before .before in
@@ -33,4 +15,4 @@ returns-2 c =
 
 pub wake-spec : {M : Type 1} → statement M
 wake-spec =
-    tie.close (tie.spec returns add-lost-requires mul-changed element-write-changed waiting-for-requires cast-result shl-result returns-2)
+    tie.close (tie.spec returns (λ c κs. search needs) (λ c. search needs) (λ c. search needs) (λ c κs. search needs) (λ c. search needs) (λ c. search needs) returns-2)

@@ -20,9 +20,6 @@ wrong-list-requires c κs = search needs
 returns-2 : tie.Need-returns-2
 returns-2 c = list-refused _ _ _ (c .before .before .before .check .ensures) (omega (arith, c .before .before .if1 .left)) (c .before .wrong-list .ensures) (c .if2 .taken)
 
-add-needed : tie.Need-add-needed
-add-needed c = search needs
-
 mul-needed : tie.Need-mul-needed
 mul-needed c = let l = right-list _ (sym (c .before .wrong-list .ensures) ∙ c .if2 .left) in search (needs, l)
 
@@ -60,7 +57,7 @@ run-spec =
     returns
     wrong-list-requires
     returns-2
-    add-needed
+    (λ c. search needs)
     mul-needed
     add-result
     returns-3

@@ -9,9 +9,9 @@ use lib.Dec.{eqb}
 use lib.ListN.{drop, length, take}
 use borrow.Author.Needs.{needs}
 use Rattle.model.specs.Tests.{oneIf}
-use Rattle.engine.specs.Holds.{SomeSession, Stepped}
-use Rattle.engine.proofs.Lists.{order-part}
-use Rattle.engine.proofs.Holds.{back-room, mark-room, narrow-inside, step-back, step-mark, step-narrow, step-other, step-refused}
+use Rattle.sessions.specs.Holds.{SomeSession, Stepped}
+use Rattle.sessions.proofs.Lists.{order-part}
+use Rattle.sessions.proofs.Holds.{back-room, mark-room, narrow-inside, step-back, step-mark, step-narrow, step-other, step-refused}
 use Rattle.runs.specs.Runs.{RanTo}
 use Rattle.runs.proofs.Results.{right-list}
 use Rattle.runs.proofs.Runs.{counts-none, counts-one, depth-small, more, opened-long, opened-ran, ran-few, ran-from, ran-room, refuses-small}
@@ -25,14 +25,11 @@ Inv-loop book orders answers₀ begins scopes s₀ accepted₀ i₀ answers s ac
 abbrev μ-loop : tie.MeasureT-loop
 μ-loop book orders answers₀ begins scopes s₀ accepted₀ i₀ answers s accepted i = length orders / 8 - i
 
-lay-out-requires : tie.Need-lay-out-requires Inv-loop μ-loop
-lay-out-requires c κs = search needs
-
 opened-requires : tie.Need-opened-requires Inv-loop μ-loop
 opened-requires c κs =
     let start = c .before .before .before .before .before .before .before .before .before in
     let p = start .pre in
-    (p .book, c .before .before .before .lay-out .ensures, omega (arith, p .enough))
+    (c .before .before .before .lay-out .ensures, omega (arith, p .enough))
 
 loop-holds : tie.Need-loop-holds Inv-loop μ-loop
 loop-holds c =
@@ -40,27 +37,6 @@ loop-holds c =
     let start = c .before .before .before .before .before .before .before .before .before .before .before .before in
     let p = start .pre .enough in
     (opened-ran _ _ _ (omega (arith, p)) (o .0) (o .1), omega arith, omega (arith, p, opened-long _ (start .args .orders .now) _ (omega (arith, p)) (o .0) (o .1)))
-
-mul-order : tie.Need-mul-order Inv-loop μ-loop
-mul-order c = search needs
-
-mul-order-2 : tie.Need-mul-order-2 Inv-loop μ-loop
-mul-order-2 c = search needs
-
-add-order : tie.Need-add-order Inv-loop μ-loop
-add-order c = search needs
-
-sub-order : tie.Need-sub-order Inv-loop μ-loop
-sub-order c = search needs
-
-part-order-start : tie.Need-part-order-start Inv-loop μ-loop
-part-order-start c = search needs
-
-part-order-end : tie.Need-part-order-end Inv-loop μ-loop
-part-order-end c = search needs
-
-refusal-requires : tie.Need-refusal-requires Inv-loop μ-loop
-refusal-requires c κs = search needs
 
 -- ---- an order's turn, once its refusal is known: the function's start, the layout, the loop's head, and the order's bytes
 abbrev start : tie.After-refusal Inv-loop μ-loop → tie.Start Inv-loop μ-loop
@@ -88,7 +64,7 @@ turn c =
     )
 
 some : (c : tie.After-refusal Inv-loop μ-loop) → SomeSession (start c .args .book .now) (head c .loop .s)
-some c = record { stands = _; holds = head c .loop .inv .0 .holds }
+some c = record { trail = _; holds = head c .loop .inv .0 .holds }
 
 add-i : tie.Need-add-i Inv-loop μ-loop
 add-i c = let l = turn c .0 in search (needs, l)
@@ -100,24 +76,15 @@ add-accepted c =
     let k = ran-few _ _ _ (head t .loop .inv .0) in
     search (needs, l, k)
 
-shared-slice-read-if2 : tie.Need-shared-slice-read-if2 Inv-loop μ-loop
-shared-slice-read-if2 c = search needs
-
 -- ---- a narrow
 shared-slice-read-wide : tie.Need-shared-slice-read-wide Inv-loop μ-loop
 shared-slice-read-wide c = search needs
-
-wide-requires : tie.Need-wide-requires Inv-loop μ-loop
-wide-requires c κs = search needs
-
-mask-of-requires : tie.Need-mask-of-requires Inv-loop μ-loop
-mask-of-requires c κs = search needs
 
 narrow-requires : tie.Need-narrow-requires Inv-loop μ-loop
 narrow-requires c κs =
     let t : tie.After-refusal Inv-loop μ-loop = search in
     let inside = narrow-inside _ _ _ (t .refusal .ensures _ refl) (c .before .before .before .before .before .before .before .if1 .taken) (some t) (c .before .before .before .before .before .if2 .taken) in
-    (start t .pre .book, laid t .lay-out .ensures, rw (c .before .wide .ensures .0) inside, some t)
+    (laid t .lay-out .ensures, rw (c .before .wide .ensures .0) inside, some t)
 
 -- ---- a mark
 shared-slice-read-if3 : tie.Need-shared-slice-read-if3 Inv-loop μ-loop
@@ -168,18 +135,14 @@ show-order-requires c κs =
     let q = turn t in
     let j : tie.Joined1 Inv-loop μ-loop = search in
     let h = stepped j .0 .holds _ (some t .holds) in (
-      start t .pre .book,
       laid t .lay-out .ensures,
-      record { stands = _; is = h .current },
+      record { trail = _; is = h .current },
       q .0,
       q .1,
       q .2,
       omega (arith, depth-small h),
       search needs,
     )
-
-loop-less : tie.Need-loop-less Inv-loop μ-loop
-loop-less c = search needs
 
 loop-again : tie.Need-loop-again Inv-loop μ-loop
 loop-again c =
@@ -212,7 +175,7 @@ returns c =
 pub run-orders-spec : {M : Type 1} → statement M
 run-orders-spec =
     tie.close
-    (tie.spec Inv-loop μ-loop lay-out-requires opened-requires loop-holds mul-order mul-order-2 add-order sub-order part-order-start part-order-end
-    refusal-requires add-i add-accepted shared-slice-read-if2 shared-slice-read-wide wide-requires mask-of-requires narrow-requires
+    (tie.spec Inv-loop μ-loop (λ c κs. search needs) opened-requires loop-holds (λ c. search needs) (λ c. search needs) (λ c. search needs) (λ c. search needs) (λ c. search needs) (λ c. search needs)
+    (λ c κs. search needs) add-i add-accepted (λ c. search needs) shared-slice-read-wide (λ c κs. search needs) (λ c κs. search needs) narrow-requires
     shared-slice-read-if3 mark-requires shared-slice-read-if4 shared-slice-read-wide-2 wide-requires-2 back-requires show-order-requires
-    loop-less loop-again same-length returns)
+    (λ c. search needs) loop-again same-length returns)

@@ -2,14 +2,14 @@ use mathlib.Core.Path.{_≡_}
 use Prim.Native.Nat.{_+_, _-_}
 use native.Mathlib.Omega.{arith}
 use borrow.Author.Needs.{needs}
-use Rattle.words.specs.Sheets.{Inside}
-use Rattle.words.proofs.Cuts.{Cutting, cutting-end, cutting-inside, cutting-more, cutting-start}
+use Rattle.words.specs.Sheets.{SheetWords}
+use Rattle.words.proofs.Cuts.{Cutting, cutting-end, cutting-words, cutting-more, cutting-start}
 use Rattle.words.proofs.Places.{eight}
 use Rattle.words.proofs.cut.cut.Statement.{statement}
 use Rattle.words.proofs.cut.cut.Tie as tie
 
 abbrev Inv-loop : tie.InvT-loop
-Inv-loop book begin s j d valid₀ index₀ nonzero₀ any₀ p₀ valid index nonzero any p = Cutting book s p j d valid₀ index₀ nonzero₀ valid index nonzero any × Inside book s valid
+Inv-loop book begin s j d valid₀ index₀ nonzero₀ any₀ p₀ valid index nonzero any p = Cutting book s p j d valid₀ index₀ nonzero₀ valid index nonzero any × SheetWords book s valid index nonzero
 
 abbrev μ-loop : tie.MeasureT-loop
 μ-loop book begin s j d valid₀ index₀ nonzero₀ any₀ p₀ valid index nonzero any p = p
@@ -18,26 +18,17 @@ nonzero-words-requires : tie.Need-nonzero-words-requires Inv-loop μ-loop
 nonzero-words-requires c κs = eight (c .before .before .pre .0)
 
 loop-holds : tie.Need-loop-holds Inv-loop μ-loop
-loop-holds c = (cutting-start _ _ _ _ _ _ _ _ (c .before .before .before .pre .3) (c .before .before .before .pre .4) (c .nonzero-words .ensures .0), c .before .before .before .pre .2)
-
-sub-p : tie.Need-sub-p Inv-loop μ-loop
-sub-p c = search needs
-
-cut-word-requires : tie.Need-cut-word-requires Inv-loop μ-loop
-cut-word-requires c κs = search needs
-
-loop-less : tie.Need-loop-less Inv-loop μ-loop
-loop-less c = search needs
+loop-holds c = (cutting-start _ _ _ _ _ _ _ _ (c .before .before .before .pre .2) (c .nonzero-words .ensures .0), c .before .before .before .pre .2)
 
 loop-again : tie.Need-loop-again Inv-loop μ-loop
 loop-again c =
     let head = c .before .before .before .before .before in
     let start = head .before .before .before .before in
     let e : head .loop .p ≡ head .loop .p - 1 + 1 = omega (arith, c .before .before .before .before .loop-test .taken) in
-    let h = cutting-more (rw e at (head .loop .inv .0)) (c .cut-word .ensures .0) (c .cut-word .ensures .1) in (h, cutting-inside h (start .pre .2))
+    let h = cutting-more (rw e at (head .loop .inv .0)) (c .cut-word .ensures .0) (c .cut-word .ensures .1) in (h, cutting-words h (start .pre .2))
 
 returns : tie.Need-returns Inv-loop μ-loop
 returns c = let e : c .before .loop .p ≡ 0 = omega (arith, c .loop-test .left) in (cutting-end (rw e at (c .before .loop .inv .0)), c .before .loop .inv .0 .same)
 
 pub cut-spec : {M : Type 1} → statement M
-cut-spec = tie.close (tie.spec Inv-loop μ-loop nonzero-words-requires loop-holds sub-p cut-word-requires loop-less loop-again returns)
+cut-spec = tie.close (tie.spec Inv-loop μ-loop nonzero-words-requires loop-holds (λ c. search needs) (λ c κs. search needs) (λ c. search needs) loop-again returns)

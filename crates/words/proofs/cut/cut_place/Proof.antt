@@ -11,14 +11,8 @@ use Rattle.words.proofs.cut.cut_place.Tie as tie
 column-requires : tie.Need-column-requires
 column-requires c κs = (head-there (c .before .pre .0), eight (c .before .pre .0), omega (arith, c .before .pre .1, width-most (c .before .pre .0) .1))
 
-cast-if1 : tie.Need-cast-if1
-cast-if1 c = search needs
-
 shr-if1 : tie.Need-shr-if1
 shr-if1 c = omega (arith, c .column .ensures .0, column-below (c .before .before .pre .0) _ (c .before .before .pre .1))
-
-mul-cut : tie.Need-mul-cut
-mul-cut c = search needs
 
 element-copy-out-cut : tie.Need-element-copy-out-cut
 element-copy-out-cut c = omega (arith, c .before .column .ensures .0, column-below (c .before .before .before .pre .0) _ (c .before .before .before .pre .1))
@@ -27,7 +21,7 @@ cut-requires : tie.Need-cut-requires
 cut-requires c κs =
     let start = c .before .before .before .before .before .before .before in
     let p = start .pre in
-    (p .0, omega (arith, p .1, width-most (p .0) .1), p .2, p .3, p .4)
+    (p .0, omega (arith, p .1, width-most (p .0) .1), p .2)
 
 returns : tie.Need-returns
 returns c =
@@ -39,7 +33,7 @@ returns c =
     )
 
 returns-2 : tie.Need-returns-2
-returns-2 c = (cut-unchanged _ _ _ _ _ _ _ _ (c .before .before .before .pre .3) (c .before .before .before .pre .4) (bit-not _ _ _ (c .before .column .ensures .0) (c .if1 .left)), λ e. refl)
+returns-2 c = (cut-unchanged _ _ _ _ _ _ _ _ (c .before .before .before .pre .2) (bit-not _ _ _ (c .before .column .ensures .0) (c .if1 .left)), λ e. refl)
 
 pub cut-place-spec : {M : Type 1} → statement M
-cut-place-spec = tie.close (tie.spec column-requires cast-if1 shr-if1 mul-cut element-copy-out-cut cut-requires returns returns-2)
+cut-place-spec = tie.close (tie.spec column-requires (λ c. search needs) shr-if1 (λ c. search needs) element-copy-out-cut cut-requires returns returns-2)

@@ -4,15 +4,15 @@ use Prim.Native.Nat.{_-_, _≤_}
 use native.Mathlib.Omega.{arith}
 use borrow.Author.Needs.{needs}
 use Rattle.model.proofs.Tests.{or-false-l, or-false-r}
-use Rattle.book.specs.Heads.{widthOf}
-use Rattle.words.specs.Sheets.{CutBy, Inside, passesBelow}
-use Rattle.words.proofs.Cuts.{cut-inside, cut-more, cut-none}
+use Rattle.heads.specs.Heads.{widthOf}
+use Rattle.words.specs.Sheets.{CutBy, SheetWords, passesBelow}
+use Rattle.words.proofs.Cuts.{cut-words, cut-more, cut-none}
 use Rattle.words.proofs.Places.{eight, head-there}
 use Rattle.words.proofs.cut.cut_places.Statement.{statement}
 use Rattle.words.proofs.cut.cut_places.Tie as tie
 
 abbrev Inv-loop : tie.InvT-loop
-Inv-loop book begin s changed opening dom valid₀ index₀ nonzero₀ k any₀ j₀ valid index nonzero any j = CutBy (passesBelow book s changed dom j) s valid₀ index₀ nonzero₀ valid index nonzero × Inside book s valid × (j ≤ k) × (any ≡ false → (opening ≡ false) × (valid ≡ valid₀))
+Inv-loop book begin s changed opening dom valid₀ index₀ nonzero₀ k any₀ j₀ valid index nonzero any j = CutBy (passesBelow book s changed dom j) s valid₀ index₀ nonzero₀ valid index nonzero × SheetWords book s valid index nonzero × (j ≤ k) × (any ≡ false → (opening ≡ false) × (valid ≡ valid₀))
 
 abbrev μ-loop : tie.MeasureT-loop
 μ-loop book begin s changed opening dom valid₀ index₀ nonzero₀ k any₀ j₀ valid index nonzero any j = k - j
@@ -21,22 +21,13 @@ width-requires : tie.Need-width-requires Inv-loop μ-loop
 width-requires c κs = (head-there (c .before .pre .0), eight (c .before .pre .0))
 
 loop-holds : tie.Need-loop-holds Inv-loop μ-loop
-loop-holds c = (cut-none _ _ _ _ _ _ _ (c .before .before .pre .2) (c .before .before .pre .3), c .before .before .pre .1, omega arith, λ e. (e, refl))
-
-cut-place-requires : tie.Need-cut-place-requires Inv-loop μ-loop
-cut-place-requires c κs = search needs
-
-add-j : tie.Need-add-j Inv-loop μ-loop
-add-j c = search needs
-
-loop-less : tie.Need-loop-less Inv-loop μ-loop
-loop-less c = search needs
+loop-holds c = (cut-none _ _ _ _ _ _ _ (c .before .before .pre .1), c .before .before .pre .1, omega arith, λ e. (e, refl))
 
 loop-again : tie.Need-loop-again Inv-loop μ-loop
 loop-again c =
     let head = c .before .before .before .before .before in (
       cut-more _ _ _ _ _ (head .loop .inv .0) (c .cut-place .ensures .0),
-      cut-inside (c .cut-place .ensures .0) (head .loop .inv .1),
+      cut-words (c .cut-place .ensures .0) (head .loop .inv .1),
       omega (arith, c .before .before .before .before .loop-test .taken),
       λ e. let f = head .loop .inv .3 (or-false-l (head .loop .any) (c .cut-place .result) e) in (f .0, c .cut-place .ensures .1 (or-false-r (head .loop .any) (c .cut-place .result) e) ∙ f .1),
     )
@@ -49,4 +40,4 @@ returns c =
     (rw e at (head .loop .inv .0), head .loop .inv .3)
 
 pub cut-places-spec : {M : Type 1} → statement M
-cut-places-spec = tie.close (tie.spec Inv-loop μ-loop width-requires loop-holds cut-place-requires add-j loop-less loop-again returns)
+cut-places-spec = tie.close (tie.spec Inv-loop μ-loop width-requires loop-holds (λ c κs. search needs) (λ c. search needs) (λ c. search needs) loop-again returns)

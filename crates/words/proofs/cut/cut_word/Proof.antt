@@ -9,7 +9,7 @@ use Rattle.words.proofs.cut.cut_word.Statement.{statement}
 use Rattle.words.proofs.cut.cut_word.Tie as tie
 
 word-number-requires : tie.Need-word-number-requires
-word-number-requires c κs = let l : c .before .before .args .p < 8 = omega (arith, c .before .before .pre .3 .few, c .before .before .pre .5) in (eight (c .before .before .pre .0), l, c .before .before .pre .3 .each _ l)
+word-number-requires c κs = let l : c .before .before .args .p < 8 = omega (arith, c .before .before .pre .2 .indexed .few, c .before .before .pre .3) in (eight (c .before .before .pre .0), l, c .before .before .pre .2 .indexed .each _ l)
 
 mul-at : tie.Need-mul-at
 mul-at c = let q = eight (c .before .before .before .pre .0) in search (needs, q)
@@ -27,18 +27,18 @@ kept-requires : tie.Need-kept-requires
 kept-requires c κs =
     let at-word-number = c .before in
     let start = at-word-number .before .before .before in
-    let l : start .args .p < 8 = omega (arith, start .pre .3 .few, start .pre .5) in (
+    let l : start .args .p < 8 = omega (arith, start .pre .2 .indexed .few, start .pre .3) in (
       at-word-number .word-number .ensures .1,
       start .pre .1,
-      word-readable (start .pre .0) _ (start .pre .2) _ (at-word-number .word-number .ensures .1) (start .pre .4 .bits _),
-      word-there (start .pre .0) _ (start .pre .2) _ (at-word-number .word-number .ensures .1) (start .pre .4 .bits _) (rw (at-word-number .word-number .ensures .0) (start .pre .3 .limit _ l .0 (start .pre .5))),
+      word-readable (start .pre .0) _ (start .pre .2 .inside) _ (at-word-number .word-number .ensures .1) (start .pre .2 .sized .bits _),
+      word-there (start .pre .0) _ (start .pre .2 .inside) _ (at-word-number .word-number .ensures .1) (start .pre .2 .sized .bits _) (rw (at-word-number .word-number .ensures .0) (start .pre .2 .indexed .limit _ l .0 (start .pre .3))),
     )
 
 returns : tie.Need-returns
 returns c =
     let start = c .before .before .before .before .before .before in
     let p = start .pre in (
-      word-uncut (p .0) _ _ _ _ _ _ (p .3) (p .4) (p .5) _ _ _ (c .before .before .before .word-number .ensures .0) refl (c .before .kept .ensures) (c .if1 .taken),
+      word-uncut (p .0) _ _ _ _ _ _ (p .2 .indexed) (p .2 .sized) (p .3) _ _ _ (c .before .before .before .word-number .ensures .0) refl (c .before .kept .ensures) (c .if1 .taken),
       λ e. refl,
     )
 
@@ -52,7 +52,7 @@ drop-word-requires : tie.Need-drop-word-requires
 drop-word-requires c κs =
     let start = c .before .before .before .before .before .before .before .before .before in
     let p = start .pre in
-    (eight (p .0), p .5, p .3 .few)
+    (eight (p .0), p .3, p .2 .indexed .few)
 
 returns-2 : tie.Need-returns-2
 returns-2 c =
@@ -60,7 +60,7 @@ returns-2 c =
     let at-word-number = at-kept .before .before in
     let start = at-word-number .before .before .before in
     let p = start .pre in (
-      rw (c .drop-word .ensures .0, c .drop-word .ensures .1) (word-zero (p .0) _ _ _ _ _ _ (p .3) (p .4) (p .5) _ _ _ (at-word-number .word-number .ensures .0) refl (at-kept .kept .ensures) (at-kept .kept .ok) (c .before .before .before .if2 .taken)),
+      rw (c .drop-word .ensures .0, c .drop-word .ensures .1) (word-zero (p .0) _ _ _ _ _ _ (p .2 .indexed) (p .2 .sized) (p .3) _ _ _ (at-word-number .word-number .ensures .0) refl (at-kept .kept .ensures) (at-kept .kept .ok) (c .before .before .before .if2 .taken)),
       λ e. absurd (false≢true (sym e)),
     )
 
@@ -69,7 +69,7 @@ returns-3 c =
     let at-kept = c .before .before in
     let start = at-kept .before .before .before .before .before in
     let p = start .pre in (
-      word-less (p .0) _ _ _ _ _ _ (p .3) (p .4) (p .5) _ _ _ (c .before .before .before .before .word-number .ensures .0) refl (at-kept .kept .ensures) (at-kept .kept .ok) (search needs),
+      word-less (p .0) _ _ _ _ _ _ (p .2 .indexed) (p .2 .sized) (p .3) _ _ _ (c .before .before .before .before .word-number .ensures .0) refl (at-kept .kept .ensures) (at-kept .kept .ok) (search needs),
       λ e. absurd (false≢true (sym e)),
     )
 

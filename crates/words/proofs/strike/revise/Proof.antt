@@ -2,8 +2,8 @@ use mathlib.Core.Path.{subst⁻¹}
 use mathlib.Core.List.{List}
 use Prim.Native.Nat.{ℕ}
 use borrow.Author.Needs.{needs}
-use Rattle.words.specs.Sheets.{AllCarried}
-use Rattle.words.proofs.Looks.{all-carried, cut-known, revised-none, revised-same, revised-struck, rows-known}
+use Rattle.words.specs.Sheets.{AllSupported}
+use Rattle.words.proofs.Looks.{all-supported, cut-known, revised-none, revised-same, revised-struck, rows-known}
 use Rattle.words.proofs.Places.{eight}
 use Rattle.words.proofs.strike.revise.Statement.{statement}
 use Rattle.words.proofs.strike.revise.Tie as tie
@@ -12,8 +12,7 @@ cut-places-requires : tie.Need-cut-places-requires
 cut-places-requires c κs =
     let start : tie.Start = search in
     let p = start .pre in
-    let k = rows-known (p .0) (p .1) in
-    (p .0, k .inside, k .indexed, p .2)
+    (p .0, rows-known (p .0) (p .1) (p .2) .words)
 
 element-copy-out-if2 : tie.Need-element-copy-out-if2
 element-copy-out-if2 c = let start : tie.Start = search in eight (start .pre .0)
@@ -24,7 +23,7 @@ returns c =
     let start : tie.Start = search in
     let p = start .pre in
     let e = cut .cut-places .ensures .0 in
-    revised-none (p .0) (p .3) (cut-known (p .0) _ _ (rows-known (p .0) (p .1)) e) (e .only) (e .sized) (c .if2 .taken)
+    revised-none (p .0) (p .3) (cut-known (p .0) _ _ (rows-known (p .0) (p .1) (p .2)) e) (e .only) (c .if2 .taken)
 
 strike-requires : tie.Need-strike-requires
 strike-requires c κs =
@@ -32,8 +31,8 @@ strike-requires c κs =
     let start : tie.Start = search in
     let p = start .pre in
     let e = cut .cut-places .ensures .0 in
-    let h = cut-known (p .0) _ _ (rows-known (p .0) (p .1)) e in
-    (p .0, h .inside, h .indexed, e .sized, p .3)
+    let h = cut-known (p .0) _ _ (rows-known (p .0) (p .1) (p .2)) e in
+    (p .0, h .words, p .3)
 
 returns-2 : tie.Need-returns-2
 returns-2 c =
@@ -41,7 +40,7 @@ returns-2 c =
     let start : tie.Start = search in
     let p = start .pre in
     let e = cut .cut-places .ensures .0 in
-    revised-struck (p .0) (p .3) (cut-known (p .0) _ _ (rows-known (p .0) (p .1)) e) (e .only) (e .sized) (c .strike .ensures) (search needs)
+    revised-struck (p .0) (p .3) (cut-known (p .0) _ _ (rows-known (p .0) (p .1) (p .2)) e) (e .only) (c .strike .ensures) (search needs)
 
 returns-3 : tie.Need-returns-3
 returns-3 c =
@@ -50,8 +49,8 @@ returns-3 c =
     let p = start .pre in
     let e = cut .cut-places .ensures .0 in
     let f = cut .cut-places .ensures .1 (c .if1 .left) in
-    revised-same (p .0) (p .3) (cut-known (p .0) _ _ (rows-known (p .0) (p .1)) e) (e .only) (e .sized)
-    (subst⁻¹ (λ (w : List ℕ). AllCarried (start .args .book .now) (start .args .s) (start .args .dom .now) w) (f .1) (all-carried (p .0) (p .1) (f .0)))
+    revised-same (p .0) (p .3) (cut-known (p .0) _ _ (rows-known (p .0) (p .1) (p .2)) e) (e .only)
+    (subst⁻¹ (λ (w : List ℕ). AllSupported (start .args .book .now) (start .args .s) (start .args .dom .now) w) (f .1) (all-supported (p .0) (p .1) (f .0)))
 
 pub revise-spec : {M : Type 1} → statement M
 revise-spec = tie.close (tie.spec cut-places-requires element-copy-out-if2 returns strike-requires returns-2 returns-3)

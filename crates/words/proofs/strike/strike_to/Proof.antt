@@ -2,7 +2,7 @@ use mathlib.Core.Path.{_≡_}
 use Prim.Native.Nat.{_-_, _<_, _≤_}
 use native.Mathlib.Omega.{arith}
 use borrow.Author.Needs.{needs}
-use Rattle.book.specs.Heads.{widthOf}
+use Rattle.heads.specs.Heads.{widthOf}
 use Rattle.words.specs.Sheets.{StruckTo}
 use Rattle.words.proofs.Places.{eight, head-there, width-most}
 use Rattle.words.proofs.Strikes.{struck-more, struck-none}
@@ -10,19 +10,16 @@ use Rattle.words.proofs.strike.strike_to.Statement.{statement}
 use Rattle.words.proofs.strike.strike_to.Tie as tie
 
 abbrev Inv-loop : tie.InvT-loop
-Inv-loop book begin s y dom₀ k lost₀ j₀ dom lost j = StruckTo book s j y dom₀ dom lost × (j ≤ k)
+Inv-loop book s y dom₀ k lost₀ j₀ dom lost j = StruckTo book s j y dom₀ dom lost × (j ≤ k)
 
 abbrev μ-loop : tie.MeasureT-loop
-μ-loop book begin s y dom₀ k lost₀ j₀ dom lost j = k - j
+μ-loop book s y dom₀ k lost₀ j₀ dom lost j = k - j
 
 width-requires : tie.Need-width-requires Inv-loop μ-loop
 width-requires c κs = (head-there (c .before .pre .0), eight (c .before .pre .0))
 
 loop-holds : tie.Need-loop-holds Inv-loop μ-loop
 loop-holds c = (struck-none _ (c .before .before .pre .1), omega arith)
-
-mul-struck : tie.Need-mul-struck Inv-loop μ-loop
-mul-struck c = search needs
 
 element-copy-out-struck : tie.Need-element-copy-out-struck Inv-loop μ-loop
 element-copy-out-struck c =
@@ -38,12 +35,6 @@ struck-requires c κs =
     let l : head .loop .j < widthOf (start .args .book .now) (start .args .s) = omega (arith, c .before .before .before .before .width .ensures .0, c .before .before .loop-test .taken) in
     (p .0, omega (arith, width-most (p .0) .1), head .loop .inv .0 .loses .store)
 
-add-j : tie.Need-add-j Inv-loop μ-loop
-add-j c = search needs
-
-loop-less : tie.Need-loop-less Inv-loop μ-loop
-loop-less c = search needs
-
 loop-again : tie.Need-loop-again Inv-loop μ-loop
 loop-again c = (struck-more _ _ (c .before .before .before .before .loop .inv .0) (c .struck .ensures), omega (arith, c .before .before .before .loop-test .taken))
 
@@ -56,4 +47,4 @@ returns c =
 
 pub strike-to-spec : {M : Type 1} → statement M
 strike-to-spec =
-    tie.close (tie.spec Inv-loop μ-loop width-requires loop-holds mul-struck element-copy-out-struck struck-requires add-j loop-less loop-again returns)
+    tie.close (tie.spec Inv-loop μ-loop width-requires loop-holds (λ c. search needs) element-copy-out-struck struck-requires (λ c. search needs) (λ c. search needs) loop-again returns)

@@ -1,7 +1,7 @@
 use Prim.Native.Nat.{_<_}
 use native.Mathlib.Omega.{arith}
 use borrow.Author.Needs.{needs}
-use Rattle.book.specs.Heads.{widthOf}
+use Rattle.heads.specs.Heads.{widthOf}
 use Rattle.words.proofs.Places.{column-below, eight, head-there}
 use Rattle.words.proofs.Strikes.{struck-all, struck-past, struck-some}
 use Rattle.words.proofs.strike.struck.Statement.{statement}
@@ -13,26 +13,17 @@ width-requires c κs = (head-there (c .before .pre .0), eight (c .before .pre .0
 column-requires : tie.Need-column-requires
 column-requires c κs = (head-there (c .before .before .before .pre .0), eight (c .before .before .before .pre .0), c .before .before .before .pre .1)
 
-mul-d : tie.Need-mul-d
-mul-d c = search needs
-
 element-copy-out-d : tie.Need-element-copy-out-d
 element-copy-out-d c =
     let start = c .before .before .before .before in
     let l : start .args .j < widthOf (start .args .book .now) (start .args .s) = omega (arith, c .before .if1 .taken, c .before .before .width .ensures .0) in
     omega (arith, c .column .ensures .0, column-below (start .pre .0) _ l)
 
-mul-dom : tie.Need-mul-dom
-mul-dom c = search needs
-
 element-write-dom : tie.Need-element-write-dom
 element-write-dom c =
     let start = c .before .before .before .before .before .before in
     let l : start .args .j < widthOf (start .args .book .now) (start .args .s) = omega (arith, c .before .before .before .if1 .taken, c .before .before .before .before .width .ensures .0) in
     omega (arith, c .before .before .column .ensures .0, column-below (start .pre .0) _ l)
-
-cast-result : tie.Need-cast-result
-cast-result c = search needs
 
 shl-result : tie.Need-shl-result
 shl-result c =
@@ -55,5 +46,5 @@ returns-3 c = struck-past _ _ (c .before .before .before .pre .0) (c .before .be
 pub struck-spec : {M : Type 1} → statement M
 struck-spec =
     tie.close
-    (tie.spec width-requires column-requires mul-d element-copy-out-d mul-dom element-write-dom cast-result shl-result returns returns-2
+    (tie.spec width-requires column-requires (λ c. search needs) element-copy-out-d (λ c. search needs) element-write-dom (λ c. search needs) shl-result returns returns-2
     returns-3)

@@ -2,7 +2,7 @@ use mathlib.Core.Path.{_≡_}
 use Prim.Native.Nat.{_-_, _<_, _≤_}
 use native.Mathlib.Omega.{arith}
 use borrow.Author.Needs.{needs}
-use Rattle.book.specs.Heads.{widthOf}
+use Rattle.heads.specs.Heads.{widthOf}
 use Rattle.words.specs.Sheets.{Wanted}
 use Rattle.words.proofs.Places.{column-below, eight, head-there, width-most}
 use Rattle.words.proofs.Strikes.{wanted-more, wanted-none}
@@ -10,10 +10,10 @@ use Rattle.words.proofs.strike.wanted.Statement.{statement}
 use Rattle.words.proofs.strike.wanted.Tie as tie
 
 abbrev Inv-loop : tie.InvT-loop
-Inv-loop book begin s dom x₀ k j₀ x j = Wanted book s dom j x × (j ≤ k)
+Inv-loop book s dom x₀ k j₀ x j = Wanted book s dom j x × (j ≤ k)
 
 abbrev μ-loop : tie.MeasureT-loop
-μ-loop book begin s dom x₀ k j₀ x j = k - j
+μ-loop book s dom x₀ k j₀ x j = k - j
 
 width-requires : tie.Need-width-requires Inv-loop μ-loop
 width-requires c κs = (head-there (c .before .pre .0), eight (c .before .pre .0))
@@ -28,29 +28,17 @@ column-requires c κs =
     let l : c .before .loop .j < widthOf (start .args .book .now) (start .args .s) = omega (arith, c .before .before .width .ensures .0, c .loop-test .taken) in
     (head-there (p .0), eight (p .0), omega (arith, width-most (p .0) .1))
 
-mul-x : tie.Need-mul-x Inv-loop μ-loop
-mul-x c = search needs
-
 element-copy-out-x : tie.Need-element-copy-out-x Inv-loop μ-loop
 element-copy-out-x c =
     let start = c .before .before .before .before .before in
     let l : c .before .before .loop .j < widthOf (start .args .book .now) (start .args .s) = omega (arith, c .before .before .before .width .ensures .0, c .before .loop-test .taken) in
     omega (arith, c .column .ensures .0, column-below (start .pre .0) _ l)
 
-mul-x-2 : tie.Need-mul-x-2 Inv-loop μ-loop
-mul-x-2 c = search needs
-
 element-write-x : tie.Need-element-write-x Inv-loop μ-loop
 element-write-x c =
     let start = c .before .before .before .before .before .before in
     let l : c .before .before .before .loop .j < widthOf (start .args .book .now) (start .args .s) = omega (arith, c .before .before .before .before .width .ensures .0, c .before .before .loop-test .taken) in
     omega (arith, width-most (start .pre .0) .1)
-
-add-j : tie.Need-add-j Inv-loop μ-loop
-add-j c = search needs
-
-loop-less : tie.Need-loop-less Inv-loop μ-loop
-loop-less c = search needs
 
 loop-again : tie.Need-loop-again Inv-loop μ-loop
 loop-again c =
@@ -71,5 +59,5 @@ returns c =
 pub wanted-spec : {M : Type 1} → statement M
 wanted-spec =
     tie.close
-    (tie.spec Inv-loop μ-loop width-requires loop-holds column-requires mul-x element-copy-out-x mul-x-2 element-write-x add-j loop-less
+    (tie.spec Inv-loop μ-loop width-requires loop-holds column-requires (λ c. search needs) element-copy-out-x (λ c. search needs) element-write-x (λ c. search needs) (λ c. search needs)
     loop-again returns)

@@ -1,0 +1,51 @@
+-- What `fitting_check` and `fitting_run` give on worked examples: harbour book H, each refusal with a place, and whole runs over a book of one
+-- column with one value. Proved in proofs/Acceptance.antt.
+use mathlib.Core.Path.{_≡_}
+use mathlib.Core.Bool.{false, true}
+use mathlib.Core.List.{List, [], _++_, _∷_}
+use Prim.Native.Nat.{ℕ}
+use lib.ListN.{replicate, set, take}
+use Rattle.heads.specs.Acceptance.{padded}
+use Rattle.book.specs.Acceptance.{both, bothHead, bothRows, harbour, sealed, tiny, tinyHead}
+use Rattle.book.specs.Verdicts.{checkResult, refused}
+use Rattle.runs.specs.Results.{runRefusal, runResult, runSpace, wrongList}
+
+pub record CheckFacts : Type 0 where
+  -- "Accepted: C × 16 + S."
+  pub harbour-accepted : checkResult harbour ≡ 50
+  pub tiny-accepted : checkResult tiny ≡ 16
+  pub empty : checkResult [] ≡ refused 1 0
+  pub short : checkResult (take 511 tiny) ≡ refused 1 0
+  pub second-check : checkResult (tiny ++ tiny) ≡ refused 2 1
+  pub many-values : checkResult (sealed 0 (set tinyHead 8 33 ∷ [])) ≡ refused 3 8
+  -- "509 is refusal 3"
+  pub rows-509 : checkResult (sealed 0 (set (set bothHead 30 253) 31 1 ∷ [])) ≡ refused 3 30
+  pub last-zero : checkResult (sealed 0 (set (padded tinyHead) 507 1 ∷ [])) ≡ refused 3 507
+  pub block-too-many : checkResult (sealed 0 (tinyHead ∷ [] ∷ [])) ≡ refused 4 1
+  pub large-value : checkResult (both (set bothRows 4 2)) ≡ refused 5 1
+
+-- a mark, a narrow of column 0 to no value, an order of no kind
+abbrev pub threeOrders : List ℕ
+threeOrders = (2 ∷ 0 ∷ 0 ∷ 0 ∷ 0 ∷ 0 ∷ 0 ∷ 0 ∷ []) ++ (1 ∷ 0 ∷ 0 ∷ 0 ∷ 0 ∷ 0 ∷ 0 ∷ 0 ∷ []) ++ (9 ∷ 0 ∷ 0 ∷ 0 ∷ 0 ∷ 0 ∷ 0 ∷ 0 ∷ [])
+
+-- 72 bytes of an answer: refusal r, status s, depth d, the domain m of column 0, and zeros
+abbrev pub tinyAnswer : ℕ → ℕ → ℕ → ℕ → List ℕ
+tinyAnswer r s d m = r ∷ s ∷ d ∷ 0 ∷ 0 ∷ 0 ∷ 0 ∷ 0 ∷ m ∷ replicate 63 0
+
+pub record RunFacts : Type 0 where
+  -- "Refused as a book is; then 10 …; 11 …"
+  pub no-book : runRefusal [] (0 ∷ []) 0 ≡ refused 1 0
+  pub ragged : runRefusal tiny (0 ∷ []) 0 ≡ refused 10 0
+  -- "256 orders run, 257 give 10"
+  pub orders-256 : wrongList (replicate 2048 0) ≡ false
+  pub orders-257 : wrongList (replicate 2056 0) ≡ true
+  -- "11 if the answer space is shorter than 72 × (n + 1) for n orders, place that many bytes"
+  pub short-space : runRefusal tiny threeOrders 287 ≡ refused 11 288
+  pub exact-space : runRefusal tiny threeOrders 288 ≡ 0
+  -- "Accepted: the number of accepted orders"
+  pub two-accepted : runResult tiny threeOrders 288 ≡ 2
+  -- the answers, and "Later bytes of the space are untouched"
+  pub four-answers : runSpace tiny threeOrders (replicate 290 7)
+      ≡ tinyAnswer 0 2 0 1 ++ tinyAnswer 0 2 1 1 ++ tinyAnswer 0 0 1 0 ++ tinyAnswer 20 0 1 0 ++ (7 ∷ 7 ∷ [])
+  -- "a refused run writes nothing"
+  pub nothing-written : runSpace tiny threeOrders (replicate 287 7) ≡ replicate 287 7

@@ -1,0 +1,2 @@
+-- The laws of what an answer shows.
+pub mod Shows

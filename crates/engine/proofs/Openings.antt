@@ -14,7 +14,7 @@ use borrow.Author.Tests.{le-ltb, lt-ltb, ltb-true}
 use Rattle.model.specs.Books.{closure, columnCount, sheetAt}
 use Rattle.model.specs.Masks.{bit, maskOf}
 use Rattle.model.specs.Orders.{allowed, domains, permits}
-use Rattle.model.specs.States.{StateHolds, StateOf, ofSheet, validRow}
+use Rattle.model.specs.States.{StateOf, ofSheet, validRow}
 use Rattle.model.specs.Stores.{has, storeOf}
 use Rattle.model.proofs.Masks.{bit-maskOf, bit-maskOf-out, bit-of-zero, mask-ext, maskOf-lt, maskOf-same, ones32, ones64}
 use Rattle.model.proofs.Rows.{word-same}
@@ -29,7 +29,7 @@ use Rattle.words.proofs.Indexes.{of-set-other, of-set-same, set-below}
 use Rattle.cells.proofs.Ones.{ones-bit, ones-shifted}
 use Rattle.words.proofs.Places.{cell-value, valid-e, valid-i}
 use Rattle.engine.specs.Openings.{FullDomains, FullIndex, FullRows, FullWord, FullWords, SixtyFour, placesBelow}
-use Rattle.engine.specs.Propagation.{Ready, Propagated, arrays, storeIn}
+use Rattle.engine.specs.Propagation.{Ready, Propagated, storeIn}
 use Rattle.engine.proofs.Propagation.{at-sheet, columns-count, count-at}
 use Rattle.engine.proofs.Worklists.{eight-sheets, zeros-at}
 
@@ -281,7 +281,7 @@ module _ (b : List ℕ) (acc : Accepted b) {D W X N : List ℕ} (hd : FullDomain
       ∙ maskOf-same 32 _ _ (λ v m. sym (and-true (ltb v (valuesOf b c))) ∙ ap (λ (n : ℕ). ltb v n && true) (sym (count-at b c k)))
       ∙ sym (getD-tab 0 (columnCount (bookOf b)) _ c (omega (arith, columns-count b))))
 
-  pub opening-state : {D′ W′ X′ N′ : List ℕ} → Propagated b D D′ W′ X′ N′ → StateHolds (bookOf b) [] (arrays D′ W′ X′ N′)
+  pub opening-state : {D′ W′ X′ N′ : List ℕ} → Propagated b D D′ W′ X′ N′ → StateOf (bookOf b) (domains (bookOf b) []) D′ W′ X′ N′
   unfolding domains
   opening-state {D′} {W′} {X′} {N′} h =
-      subst (λ (A : List ℕ). StateOf (bookOf b) (closure (bookOf b) A) (arrays D′ W′ X′ N′)) full-allowed (h .state)
+      subst (λ (A : List ℕ). StateOf (bookOf b) (closure (bookOf b) A) D′ W′ X′ N′) full-allowed (h .state)

@@ -31,7 +31,7 @@ use Rattle.words.specs.Looks.{Revised, Seen, SheetKnown}
 use Rattle.words.specs.Sheets.{AtSheet, IndexOf, Loses, OnlySheet, Sized, firstByte, valueAt}
 use Rattle.words.proofs.Places.{column-value, columns-size, formed, sheet-at, sheet-in, width-most, valid-e}
 use Rattle.engine.specs.Layouts.{LayoutOf}
-use Rattle.engine.specs.Propagation.{Fixpoint, Ready, arrays, closureIn, storeIn, Propagated}
+use Rattle.engine.specs.Propagation.{Fixpoint, Ready, closureIn, storeIn, Propagated}
 use Rattle.engine.specs.Worklists.{Woken, touches}
 use Rattle.engine.proofs.Worklists.{eight-sheets, touched-sheet, untouched-column, woken-same, zeros-at}
 
@@ -382,7 +382,7 @@ module _ (b : List ℕ) (acc : Accepted b) where
           })
           consistent
 
-      state : StateOf (bookOf b) (closureIn b D₀) (arrays D W X N)
+      state : StateOf (bookOf b) (closureIn b D₀) D W X N
       state = rw closed (
           record {
             domain = store-same b D (h .store) past;
@@ -431,7 +431,7 @@ module _ (b : List ℕ) (acc : Accepted b) where
 
   -- the index of any state serves
   pub empty-state : (W X N : List ℕ) → ((s : ℕ) → s < sheetsOf b → IndexOf s W X N)
-      → StateOf (bookOf b) (emptyStore (columnCount (bookOf b))) (arrays (replicate 16 0) (replicate 64 0) X (replicate 8 0))
+      → StateOf (bookOf b) (emptyStore (columnCount (bookOf b))) (replicate 16 0) (replicate 64 0) X (replicate 8 0)
   empty-state W X N h = record {
     domain = λ c. zeros-at 16 c ∙ sym (no-value c);
     rows = λ s w l m. zeros-at 64 (8 * s + w) ∙ no-row s w (omega (arith, sheets-count b));

@@ -16,7 +16,7 @@ use Rattle.model.specs.Choices.{pick}
 use Rattle.model.specs.Closure.{Consistent}
 use Rattle.model.specs.Masks.{bit}
 use Rattle.model.specs.Orders.{Entry, allowed, domains, narrowed}
-use Rattle.model.specs.States.{StateHolds, StateOf}
+use Rattle.model.specs.States.{StateOf}
 use Rattle.model.specs.Stores.{IsStore, Within, emptyStore, has, meet}
 use Rattle.model.proofs.Books.{closed-or-empty, consistent-from, stays-iff, supportedIn-same}
 use Rattle.model.proofs.Choices.{pick-same}
@@ -34,14 +34,14 @@ use Rattle.words.specs.Sheets.{IndexOf, Sized}
 use Rattle.words.proofs.Places.{sheet-in}
 use Rattle.cells.proofs.Walks.{shifted-one}
 use Rattle.engine.specs.Layouts.{LayoutOf}
-use Rattle.engine.specs.Propagation.{Ready, Propagated, arrays, closureIn, storeIn}
-use Rattle.engine.specs.States.{Emptied, Narrows, arraysOf}
+use Rattle.engine.specs.Propagation.{Ready, Propagated, closureIn, storeIn}
+use Rattle.engine.specs.States.{Emptied, Narrows}
 use Rattle.engine.specs.Worklists.{WaitingFor}
 use Rattle.engine.specs.declared.state.State.{State}
 use Rattle.engine.proofs.Propagation.{at-sheet, columns-count, empty-domains, empty-sized, empty-state, no-value, sheets-count, store-in}
 use Rattle.engine.proofs.Worklists.{eight-sheets, touched-sheet, untouched-column}
 
-module _ (b : List ℕ) (acc : Accepted b) (L : List Entry) {D W X N : List ℕ} (h : StateHolds (bookOf b) L (arrays D W X N))
+module _ (b : List ℕ) (acc : Accepted b) (L : List Entry) {D W X N : List ℕ} (h : StateOf (bookOf b) (domains (bookOf b) L) D W X N)
     (d : IsStore 16 D) (z : Sized W X N) where
   abbrev bk : Book
   bk = bookOf b
@@ -65,7 +65,7 @@ module _ (b : List ℕ) (acc : Accepted b) (L : List Entry) {D W X N : List ℕ}
     low = omega (arith, columns-count b)
 
     -- ---- nothing is cut
-    pub narrow-same : bitAnd (getD D c 0) m ≡ getD D c 0 → StateHolds bk (L ++ (narrowed c m ∷ [])) (arrays D W X N)
+    pub narrow-same : bitAnd (getD D c 0) m ≡ getD D c 0 → StateOf bk (domains bk (L ++ (narrowed c m ∷ []))) D W X N
     narrow-same e = rw same h
       where
         whole : meet E c m ≡ E
@@ -219,7 +219,7 @@ module _ (b : List ℕ) (acc : Accepted b) (c m : ℕ) (l : c < columnsOf b) (st
   pub state-propagated : (t : State) → Propagated b (meet (st .dom) c m) (t .dom) (t .valid) (t .index) (t .nonzero) → Narrows b c m st t
   state-propagated t s L h = record {
     holds =
-        subst (λ (E : List ℕ). StateOf (bookOf b) E (arraysOf t)) (met-closure b acc L (h .holds) (h .store) (h .sized) c m l) (s .state);
+        subst (λ (E : List ℕ). StateOf (bookOf b) E (t .dom) (t .valid) (t .index) (t .nonzero)) (met-closure b acc L (h .holds) (h .store) (h .sized) c m l) (s .state);
     store = s .store;
     sized = s .sized;
   }

@@ -9,7 +9,7 @@ use Rattle.model.specs.Tests.{tab}
 use Rattle.model.specs.Masks.{bit, size}
 use Rattle.model.specs.Stores.{has, IsStore, emptyStore}
 use Rattle.model.specs.Books.{closure, columnCount}
-use Rattle.model.specs.States.{Arrays, StateOf}
+use Rattle.model.specs.States.{StateOf}
 use Rattle.heads.specs.Heads.{columnOf, columnsOf, sheetsOf, widthOf}
 use Rattle.book.specs.Decoding.{bookOf}
 use Rattle.words.specs.Looks.{SheetKnown}
@@ -26,10 +26,6 @@ isOpen D c = ltb 1 (size (getD D c 0))
 -- the closure of that store
 abbrev pub closureIn : List ℕ → List ℕ → List ℕ
 closureIn b D = closure (bookOf b) (storeIn b D)
-
--- the four arrays as a state of the model
-abbrev pub arrays : List ℕ → List ℕ → List ℕ → List ℕ → Arrays
-arrays D W X N = record { dom = D; valid = W; index = X; nonzero = N }
 
 -- no column of the book is empty, and the columns past its last are; each sheet is known but for the columns in `column`, and outside the opening
 -- each saw support for every value. A sheet that does not wait has none of these columns
@@ -48,7 +44,7 @@ pub record Ready (b : List ℕ) (opening : Bool) (waiting column : ℕ) (D W X N
 pub record Fixpoint (b D D′ W′ X′ N′ : List ℕ) (r : Bool) : Type 0 where
   pub store : IsStore 16 D′
   pub sized : Sized W′ X′ N′
-  pub state : r ≡ true → StateOf (bookOf b) (closureIn b D) (arrays D′ W′ X′ N′)
+  pub state : r ≡ true → StateOf (bookOf b) (closureIn b D) D′ W′ X′ N′
   pub filled : r ≡ true → (c : ℕ) → c < columnsOf b → (v : ℕ) × (has D′ c v ≡ true)
   pub failed : r ≡ false → closureIn b D ≡ emptyStore (columnCount (bookOf b))
   pub indexed : (s : ℕ) → s < sheetsOf b → IndexOf s W′ X′ N′
@@ -57,4 +53,4 @@ pub record Fixpoint (b D D′ W′ X′ N′ : List ℕ) (r : Bool) : Type 0 whe
 pub record Propagated (b D D′ W′ X′ N′ : List ℕ) : Type 0 where
   pub store : IsStore 16 D′
   pub sized : Sized W′ X′ N′
-  pub state : StateOf (bookOf b) (closureIn b D) (arrays D′ W′ X′ N′)
+  pub state : StateOf (bookOf b) (closureIn b D) D′ W′ X′ N′

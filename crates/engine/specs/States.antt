@@ -4,19 +4,17 @@ use mathlib.Core.List.{List, [], _++_, _∷_}
 use Prim.Native.Nat.{ℕ}
 use lib.ListN.{replicate}
 use Rattle.model.specs.Orders.{Entry, domains, narrowed}
-use Rattle.model.specs.States.{Arrays, StateOf}
+use Rattle.model.specs.States.{StateOf}
 use Rattle.model.specs.Stores.{IsStore}
 use Rattle.book.specs.Decoding.{bookOf}
 use Rattle.words.specs.Sheets.{Sized}
 use Rattle.engine.specs.declared.state.State.{State}
 
 -- ---- states
-abbrev pub arraysOf : State → Arrays
-arraysOf st = record { dom = st .dom; valid = st .valid; index = st .index; nonzero = st .nonzero }
-
--- the state of the trail L: domains, valid rows and index are those of its closure, and the arrays have their sizes
+-- the state of the trail L: "its domains … and live rows are those of the standing list and its index keeps the invariant above", and the arrays have
+-- their sizes
 pub record StateIs (b : List ℕ) (L : List Entry) (st : State) : Type 0 where
-  pub holds : StateOf (bookOf b) (domains (bookOf b) L) (arraysOf st)
+  pub holds : StateOf (bookOf b) (domains (bookOf b) L) (st .dom) (st .valid) (st .index) (st .nonzero)
   pub store : IsStore 16 (st .dom)
   pub sized : Sized (st .valid) (st .index) (st .nonzero)
 

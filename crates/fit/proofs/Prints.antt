@@ -11,7 +11,7 @@ use Rattle.book.proofs.Decoding.{accepted-right}
 use Rattle.heads.proofs.Heads.{columns-range}
 use Rattle.fit.specs.Prints.{columnsShown, runText}
 use Rattle.lines.specs.Texts.{printed}
-use Rattle.lines.proofs.Writing.{printed-refused}
+use Rattle.lines.proofs.Written.{printed-refused}
 use Rattle.runs.specs.Results.{runResult, runSpace}
 use Rattle.runs.proofs.Results.{accepted-number, right-input}
 

@@ -9,7 +9,7 @@ use native.Mathlib.Omega.{arith}
 use lib.Dec.{eqb, leb, ltb}
 use lib.ListN.{getD, length}
 use borrow.Author.Tests.{eqb-true, leb-true, ltb-true}
-use Rattle.model.specs.Acceptance.{BooksWellFormed, H, H1, H2, H7, H8, H9, RowFacts, openingArrays, sheetOf, unequal}
+use Rattle.model.specs.Acceptance.{BooksWellFormed, H, H1, H2, H7, H8, H9, RowFacts, openingIndex, openingRows, sheetOf, unequal}
 use Rattle.model.specs.Books.{Book, Sheet, WellFormed, WellFormedSheet, columnCount, sheetAt}
 use Rattle.model.specs.Orders.{Entry, allowed, domains, narrowed}
 use Rattle.model.specs.States.{Indexed, OneSheet, ofSheet, valid, validRow, validWord}
@@ -135,15 +135,15 @@ rowFacts =
             domain = λ c. refl;
             rows = λ s w l m.
                 eqb-true _ _
-                (allBelow-e 8 (λ w. eqb (ofSheet (openingArrays .valid) s w) (validWord (domains H []) (sheetAt H s) w))
-                (allBelow-e 2 (λ s. allBelow 8 (λ w. eqb (ofSheet (openingArrays .valid) s w) (validWord (domains H []) (sheetAt H s) w))) refl s l) w m);
+                (allBelow-e 8 (λ w. eqb (ofSheet openingRows s w) (validWord (domains H []) (sheetAt H s) w))
+                (allBelow-e 2 (λ s. allBelow 8 (λ w. eqb (ofSheet openingRows s w) (validWord (domains H []) (sheetAt H s) w))) refl s l) w m);
             indexed = indexed;
           };
       narrowed-0 = refl;
       narrowed-1 = refl;
     }
   where
-    indexed : (s : ℕ) → s < 2 → Indexed (ofSheet (openingArrays .index) s) (getD (openingArrays .nonzero) s 0) (ofSheet (openingArrays .valid) s)
-    indexed zero l = first-indexed (ofSheet (openingArrays .index) 0) (ofSheet (openingArrays .valid) 0) refl (omega arith) refl
-    indexed (suc zero) l = first-indexed (ofSheet (openingArrays .index) 1) (ofSheet (openingArrays .valid) 1) refl (omega arith) refl
+    indexed : (s : ℕ) → s < 2 → Indexed (ofSheet openingIndex s) (getD (1 ∷ 1 ∷ []) s 0) (ofSheet openingRows s)
+    indexed zero l = first-indexed (ofSheet openingIndex 0) (ofSheet openingRows 0) refl (omega arith) refl
+    indexed (suc zero) l = first-indexed (ofSheet openingIndex 1) (ofSheet openingRows 1) refl (omega arith) refl
     indexed (suc (suc s)) l = absurd (omega arith)

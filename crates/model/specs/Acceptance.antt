@@ -11,7 +11,7 @@ use Rattle.model.specs.Books.{Sheet, Book, WellFormed, sheetAt}
 use Rattle.model.specs.Search.{searchSolution}
 use Rattle.model.specs.Orders.{Entry, checkpoint, refusal, trail, domains}
 use Rattle.model.specs.Answers.{Answer, answers, lastAnswer, acceptedCount, answerBytes}
-use Rattle.model.specs.States.{validWord, Arrays, StateHolds}
+use Rattle.model.specs.States.{validWord, StateOf}
 use Rattle.model.specs.Demands.{SameAllowed}
 
 abbrev pub sheetOf : List ℕ → List (List ℕ) → Sheet
@@ -171,16 +171,14 @@ pub record ByteFacts : Type 0 where
 
 -- ---- valid rows
 -- the state of H at its opening: rows 0 to 3 of sheet 0, rows 0 to 2 of sheet 1
-abbrev pub openingArrays : Arrays
-openingArrays = record {
-  dom = 7 ∷ 3 ∷ 3 ∷ [];
-  valid = 15 ∷ 0 ∷ 0 ∷ 0 ∷ 0 ∷ 0 ∷ 0 ∷ 0 ∷ 7 ∷ 0 ∷ 0 ∷ 0 ∷ 0 ∷ 0 ∷ 0 ∷ 0 ∷ [];
-  index = 0 ∷ 1 ∷ 2 ∷ 3 ∷ 4 ∷ 5 ∷ 6 ∷ 7 ∷ 0 ∷ 1 ∷ 2 ∷ 3 ∷ 4 ∷ 5 ∷ 6 ∷ 7 ∷ [];
-  nonzero = 1 ∷ 1 ∷ [];
-}
+abbrev pub openingRows : List ℕ
+openingRows = 15 ∷ 0 ∷ 0 ∷ 0 ∷ 0 ∷ 0 ∷ 0 ∷ 0 ∷ 7 ∷ 0 ∷ 0 ∷ 0 ∷ 0 ∷ 0 ∷ 0 ∷ 0 ∷ []
+
+abbrev pub openingIndex : List ℕ
+openingIndex = 0 ∷ 1 ∷ 2 ∷ 3 ∷ 4 ∷ 5 ∷ 6 ∷ 7 ∷ 0 ∷ 1 ∷ 2 ∷ 3 ∷ 4 ∷ 5 ∷ 6 ∷ 7 ∷ []
 
 pub record RowFacts : Type 0 where
-  pub opening : StateHolds H [] openingArrays
+  pub opening : StateOf H (domains H []) (7 ∷ 3 ∷ 3 ∷ []) openingRows openingIndex (1 ∷ 1 ∷ [])
   -- K3: narrow board 1 leaves rows 00 and 10, and row 00
   pub narrowed-0 : validWord (domains H (trail H (narrow 2 1 ∷ []))) (sheetAt H 0) 0 ≡ 3
   pub narrowed-1 : validWord (domains H (trail H (narrow 2 1 ∷ []))) (sheetAt H 1) 0 ≡ 1

@@ -10,7 +10,6 @@ use lib.ListN.{length, getD}
 use Rattle.model.specs.Masks.{maskOf}
 use Rattle.model.specs.Stores.{has, IsStore}
 use Rattle.model.specs.Books.{Sheet, Book, columnCount, WellFormed, closure, inDomain, sheetAt}
-use Rattle.model.specs.Orders.{Entry, domains}
 
 -- "A row lies in a box when each of its values is in its column's domain": one value for each of these columns
 unfoldable pub valid : List ℕ → List ℕ → List ℕ → Bool
@@ -69,20 +68,9 @@ pub record Indexed (index : ℕ → ℕ) (n : ℕ) (word : ℕ → ℕ) : Type 0
 abbrev pub ofSheet : List ℕ → ℕ → ℕ → ℕ
 ofSheet xs s i = getD xs (8 * s + i) 0
 
--- a state: "arrays of live-row words, index positions, limits and domains"; a limit is held as the number of words that are not zero, which is
--- one more
-pub record Arrays : Type 0 where
-  pub dom : List ℕ
-  pub valid : List ℕ
-  pub index : List ℕ
-  pub nonzero : List ℕ
-
--- the state of a store D: its domains, its valid rows, and an index of their words
-pub record StateOf (b : Book) (D : List ℕ) (a : Arrays) : Type 0 where
-  pub domain : (c : ℕ) → getD (a .dom) c 0 ≡ getD D c 0
-  pub rows : (s w : ℕ) → s < length (b .sheets) → w < 8 → ofSheet (a .valid) s w ≡ validWord D (sheetAt b s) w
-  pub indexed : (s : ℕ) → s < length (b .sheets) → Indexed (ofSheet (a .index) s) (getD (a .nonzero) s 0) (ofSheet (a .valid) s)
-
--- "its domains … and live rows are those of the standing list and its index keeps the invariant above"
-abbrev pub StateHolds : Book → List Entry → Arrays → Type 0
-StateHolds b L a = StateOf b (domains b L) a
+-- "arrays of live-row words, index positions, limits and domains" are the state of a store D: its domains, its valid rows, and an index of their words.
+-- A limit is held as the number of words that are not zero, which is one more
+pub record StateOf (b : Book) (D dom valid index nonzero : List ℕ) : Type 0 where
+  pub domain : (c : ℕ) → getD dom c 0 ≡ getD D c 0
+  pub rows : (s w : ℕ) → s < length (b .sheets) → w < 8 → ofSheet valid s w ≡ validWord D (sheetAt b s) w
+  pub indexed : (s : ℕ) → s < length (b .sheets) → Indexed (ofSheet index s) (getD nonzero s 0) (ofSheet valid s)

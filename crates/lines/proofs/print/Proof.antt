@@ -1,6 +1,6 @@
 use mathlib.Core.Path.{_∙_}
 use borrow.Author.Needs.{needs}
-use Rattle.lines.proofs.Writing.{written-then, printed-refused, printed-accepted}
+use Rattle.lines.proofs.Written.{written-then, printed-refused, printed-accepted}
 use Rattle.lines.proofs.print.Statement.{statement}
 use Rattle.lines.proofs.print.Tie as tie
 

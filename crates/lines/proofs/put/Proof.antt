@@ -4,7 +4,7 @@ use native.Mathlib.Omega.{arith}
 use lib.ListN.{length, take}
 use borrow.Author.Needs.{needs}
 use Rattle.lines.specs.Written.{Written}
-use Rattle.lines.proofs.Writing.{written-none, written-next, written-all}
+use Rattle.lines.proofs.Written.{written-none, written-next, written-all}
 use Rattle.lines.proofs.put.Statement.{statement}
 use Rattle.lines.proofs.put.Tie as tie
 

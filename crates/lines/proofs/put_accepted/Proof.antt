@@ -1,7 +1,7 @@
 use native.Mathlib.Omega.{arith}
 use borrow.Author.Needs.{needs}
 use Rattle.lines.specs.Texts.{acceptedLine}
-use Rattle.lines.proofs.Writing.{written-most, written-then}
+use Rattle.lines.proofs.Written.{written-most, written-then}
 use Rattle.lines.proofs.put_accepted.Statement.{statement}
 use Rattle.lines.proofs.put_accepted.Tie as tie
 

@@ -1,7 +1,7 @@
 use native.Mathlib.Omega.{arith}
 use borrow.Author.Needs.{needs}
-use Rattle.lines.proofs.Writing.{written-short}
-use Rattle.lines.proofs.Figures.{byte-short}
+use Rattle.lines.proofs.Written.{written-short}
+use Rattle.lines.proofs.Texts.{byte-short}
 use Rattle.lines.proofs.put_byte_field.Statement.{statement}
 use Rattle.lines.proofs.put_byte_field.Tie as tie
 

@@ -4,7 +4,7 @@ use native.Mathlib.Omega.{arith}
 use borrow.Author.Needs.{needs}
 use Rattle.lines.specs.Written.{Written}
 use Rattle.lines.specs.Texts.{domainFields}
-use Rattle.lines.proofs.Writing.{written-none, written-domain}
+use Rattle.lines.proofs.Written.{written-none, written-domain}
 use Rattle.lines.proofs.put_domains.Statement.{statement}
 use Rattle.lines.proofs.put_domains.Tie as tie
 

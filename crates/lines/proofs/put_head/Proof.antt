@@ -1,6 +1,6 @@
 use borrow.Author.Needs.{needs}
 use Rattle.lines.specs.Texts.{answerHead}
-use Rattle.lines.proofs.Writing.{written-then}
+use Rattle.lines.proofs.Written.{written-then}
 use Rattle.lines.proofs.put_head.Statement.{statement}
 use Rattle.lines.proofs.put_head.Tie as tie
 

@@ -1,7 +1,7 @@
 use native.Mathlib.Omega.{arith}
 use borrow.Author.Needs.{needs}
 use Rattle.lines.specs.Texts.{answerLine}
-use Rattle.lines.proofs.Writing.{written-then, written-most}
+use Rattle.lines.proofs.Written.{written-then, written-most}
 use Rattle.lines.proofs.put_line.Statement.{statement}
 use Rattle.lines.proofs.put_line.Tie as tie
 

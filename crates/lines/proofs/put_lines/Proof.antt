@@ -5,7 +5,7 @@ use lib.ListN.{drop, take}
 use borrow.Author.Needs.{needs}
 use Rattle.lines.specs.Written.{Written}
 use Rattle.lines.specs.Texts.{answerLines}
-use Rattle.lines.proofs.Writing.{written-none, written-line}
+use Rattle.lines.proofs.Written.{written-none, written-line}
 use Rattle.lines.proofs.put_lines.Statement.{statement}
 use Rattle.lines.proofs.put_lines.Tie as tie
 

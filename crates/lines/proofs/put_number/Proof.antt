@@ -1,8 +1,8 @@
 use mathlib.Core.Path.{_∙_}
 use native.Mathlib.Omega.{arith}
 use borrow.Author.Needs.{needs}
-use Rattle.lines.proofs.Writing.{written-as, written-short}
-use Rattle.lines.proofs.Figures.{fewest-few, fewest-number, number-short}
+use Rattle.lines.proofs.Written.{written-as, written-short}
+use Rattle.lines.proofs.Texts.{fewest-few, fewest-number, number-short}
 use Rattle.lines.proofs.put_number.Statement.{statement}
 use Rattle.lines.proofs.put_number.Tie as tie
 

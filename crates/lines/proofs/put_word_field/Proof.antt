@@ -1,7 +1,7 @@
 use native.Mathlib.Omega.{arith}
 use borrow.Author.Needs.{needs}
-use Rattle.lines.proofs.Writing.{written-short}
-use Rattle.lines.proofs.Figures.{word-short}
+use Rattle.lines.proofs.Written.{written-short}
+use Rattle.lines.proofs.Texts.{word-short}
 use Rattle.lines.proofs.put_word_field.Statement.{statement}
 use Rattle.lines.proofs.put_word_field.Tie as tie
 

@@ -1,11 +1,11 @@
 -- The verdict on a book, and the number that the call returns.
 use mathlib.Core.Bool.{cond, not}
 use mathlib.Core.List.{List}
-use Prim.Native.Nat.{ℕ, _+_, _*_, _/_, _<_}
+use Prim.Native.Nat.{ℕ, _+_, _*_, _<_}
 use lib.Dec.{ltb, eqb}
 use Rattle.heads.specs.Blocks.{wrongLength, blockCount, firstWrongCheck}
 use Rattle.heads.specs.Heads.{columnsOf, sheetsOf, firstWrongField}
-use Rattle.book.specs.Rows.{blocksNeeded, RowFault, clean, fault, firstFault}
+use Rattle.book.specs.Rows.{blocksNeeded, RowFault, clean, fault, firstFault, blockOf}
 
 -- "Refused with" 1 to 5, each with its place, or "Accepted" with C and S
 pub data Verdict : Type 0 where
@@ -19,7 +19,7 @@ pub data Verdict : Type 0 where
 -- "5 if a row value is too large or a byte that must be zero isn't, place the first such block", counted in the whole file
 abbrev pub rowVerdict : List ℕ → RowFault → Verdict
 rowVerdict b clean = accepted (columnsOf b) (sheetsOf b)
-rowVerdict b (fault place kind) = badRow (place / 512)
+rowVerdict b (fault place kind) = badRow (blockOf (fault place kind))
 
 -- "Where several apply, the lowest of these numbers is given." "4 if the blocks aren't 1 plus those of the sheets, place the number needed"
 unfoldable pub verdict : List ℕ → Verdict

@@ -12,13 +12,13 @@ use lib.Bits.{bitAnd, bitOr, or-lt}
 use lib.Count.{trailingZeros}
 use lib.Dec.{eqb, ltb}
 use lib.ListN.{getD, set}
-use borrow.Author.Tests.{eq-eqb, eqb-false, eqb-true, le-ltb, lt-ltb, ltb-true, ne-eqb}
+use borrow.Author.Tests.{eq-eqb, eqb-false, eqb-true, le-ltb, lt-ltb, ltb-true, ne-eqb, not-false}
 use Rattle.model.specs.Masks.{Cleared, bit}
-use Rattle.model.proofs.Masks.{bit-and, bit-high, bit-of-zero, bit-or, bit-pow, bit-pow-only, ones60, ones64}
+use Rattle.model.proofs.Masks.{bit-and, bit-high, bit-of-zero, bit-or, bit-pow, bit-pow-only, lowest-under, ones60, ones64}
 use Rattle.model.proofs.Tests.{and-l, and-r, and-true, below, either, or-e, or-l, or-r}
 use Rattle.fields.specs.Bytes.{byteAt}
 use Rattle.cells.specs.Cells.{Gathered, GatheredNear, GatheredOf, Joined, NearRows, PastRun, Readable, RunOf, SmallSets, cellAt, fourOf, nearPlace}
-use Rattle.cells.proofs.Ones.{below-lowest, complement, ones-shifted}
+use Rattle.cells.proofs.Ones.{complement, ones-shifted}
 use Rattle.cells.proofs.Walks.{Part, far-bits, four-all, near-bits, near-same, part-cleared, split}
 
 one-row : (cell : ℕ → ℕ → ℕ) (t : ℕ) {g h : List ℕ} → ((j : ℕ) → j < 4 → getD h j 0 ≡ bitOr (getD g j 0) (2 ^ cell t j)) → GatheredOf cell (λ k. eqb k t) g h
@@ -211,11 +211,7 @@ pub run-of : (word n : ℕ) → word < 2 ^ 60 → n ≡ trailingZeros 64 (ones64
 run-of word n l e = (few (below 60 n), record { at = λ k m. set k (below k 64) (rw e at m) })
   where
     clear : (k : ℕ) → k < trailingZeros 64 (ones64 - word) → k < 64 → not (bit k word) ≡ false
-    clear k m q = sym (complement 64 word k (omega arith) q) ∙ below-lowest 64 (ones64 - word) k m
-
-    twice : (x : Bool) → not x ≡ false → x ≡ true
-    twice true p = refl
-    twice false p = absurd (false≢true (sym p))
+    clear k m q = sym (complement 64 word k (omega arith) q) ∙ lowest-under 64 (ones64 - word) k m
 
     few : (60 < n) ⊎ (n ≤ 60) → n ≤ 60
     few (inr m) = m
@@ -223,7 +219,7 @@ run-of word n l e = (few (below 60 n), record { at = λ k m. set k (below k 64) 
         absurd (false≢true (sym (clear 60 (rw e at m) (omega arith)) ∙ ap not (bit-high 60 word 60 l (omega arith))))
 
     set : (k : ℕ) → (k < 64) ⊎ (64 ≤ k) → k < trailingZeros 64 (ones64 - word) → bit k word ≡ true
-    set k (inl q) m = twice (bit k word) (clear k m q)
+    set k (inl q) m = not-false (bit k word) (clear k m q)
     set k (inr q) m = absurd (omega (arith, few (below 60 n)))
 
 -- ---- the whole word

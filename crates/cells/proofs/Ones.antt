@@ -1,11 +1,10 @@
 -- Masks of all places, of those below a number, and what is not in a mask. Assumes nothing.
-use mathlib.Core.Path.{_∙_, _≡_, ap, refl, sym}
-use mathlib.Core.Bool.{false, not, true}
+use mathlib.Core.Path.{_∙_, _≡_, ap, sym}
+use mathlib.Core.Bool.{not, true}
 use mathlib.Core.Logic.{_⊎_, inl, inr}
 use Prim.Native.Nat.{_%_, _+_, _-_, _/_, _<_, _^_, _≤_, suc, zero, ℕ}
 use native.Mathlib.Nat.{pow-succ'}
 use native.Mathlib.Omega.{arith}
-use lib.Count.{trailingZeros, under}
 use lib.Dec.{eqb, ltb}
 use lib.Pow.{pow-pos, shr-shr}
 use borrow.Author.Tests.{eq-eqb, le-ltb, lt-ltb, ne-eqb}
@@ -55,18 +54,3 @@ low-ones n k = go (below k n)
     go : (k < n) ⊎ (n ≤ k) → bit k (2 ^ n - 1) ≡ ltb k n
     go (inl l) = ones-bit n k l ∙ sym (lt-ltb k n l)
     go (inr l) = bit-high n (2 ^ n - 1) k (let z : 0 < 2 ^ n = pow-pos n in omega arith) l ∙ sym (le-ltb k n l)
-
--- no place below the lowest is set
-pub below-lowest : (n x k : ℕ) → k < trailingZeros n x → bit k x ≡ false
-unfolding trailingZeros
-below-lowest zero x k l = absurd (omega arith)
-below-lowest (suc n) x zero l = bit-zero x ∙ even (x % 2) (trailingZeros n (x / 2)) (omega arith) l
-  where
-    even : (d t : ℕ) → d < 2 → 0 < under d t → eqb d 1 ≡ false
-    even zero t p q = refl
-    even (suc d) t p q = absurd (omega arith)
-below-lowest (suc n) x (suc k) l = bit-suc k x ∙ below-lowest n (x / 2) k (fewer (x % 2) (trailingZeros n (x / 2)) l)
-  where
-    fewer : (d t : ℕ) → suc k < under d t → k < t
-    fewer zero t q = omega arith
-    fewer (suc d) t q = absurd (omega arith)

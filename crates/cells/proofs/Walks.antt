@@ -51,6 +51,9 @@ part-cleared {left} {rest} {t} {word} c p =
 pub shifted-one : (k v : ℕ) → v < k → (1 * 2 ^ v) % 2 ^ k ≡ 2 ^ v
 shifted-one k v l = rw (one-mul, mod-eq-of-lt (pow-lt l))
 
+pub shifted-bit : (k v : ℕ) → v < k → bit v ((1 * 2 ^ v) % 2 ^ k) ≡ true
+shifted-bit k v l = rw (shifted-one k v l) (bit-pow v)
+
 -- the last five bits of a value are the value
 pub low-five : {v x : ℕ} → v ≡ x → x < 32 → v % 32 ≡ x
 low-five e l = ap (λ (i : ℕ). i % 32) e ∙ mod-eq-of-lt l

@@ -20,10 +20,10 @@ use Rattle.model.specs.States.{StateOf}
 use Rattle.model.specs.Stores.{IsStore, Within, emptyStore, has, meet}
 use Rattle.model.proofs.Books.{closed-or-empty, consistent-from, stays-iff, supportedIn-same}
 use Rattle.model.proofs.Choices.{pick-same}
-use Rattle.model.proofs.Masks.{bit-of-zero, bit-pow, some-bit}
+use Rattle.model.proofs.Masks.{bit-of-zero, some-bit}
 use Rattle.model.proofs.Rows.{words-same}
-use Rattle.model.proofs.Stores.{in-store, meet-has, meet-store, store-ext}
-use Rattle.model.proofs.Tests.{allIn-e, and-i, and-l, and-r, either, getD-tab, or-l, positive}
+use Rattle.model.proofs.Stores.{in-store, meet-has, meet-store, meet-within, store-ext}
+use Rattle.model.proofs.Tests.{allIn-e, and-i, and-r, either, getD-tab, or-l, positive}
 use Rattle.model.proofs.Trails.{allowed-store, domains-closed, domains-store, narrow-domains}
 use Rattle.book.specs.Decoding.{bookOf}
 use Rattle.heads.specs.Heads.{columnsOf, sheetsOf}
@@ -32,7 +32,7 @@ use Rattle.book.proofs.Decoding.{accepted-right, right-formed}
 use Rattle.heads.proofs.Heads.{columns-range}
 use Rattle.words.specs.Sheets.{IndexOf, Sized}
 use Rattle.words.proofs.Places.{sheet-in}
-use Rattle.cells.proofs.Walks.{shifted-one}
+use Rattle.cells.proofs.Walks.{shifted-bit}
 use Rattle.engine.specs.Layouts.{LayoutOf}
 use Rattle.engine.specs.Propagation.{Ready, Propagated, closureIn, storeIn}
 use Rattle.engine.specs.States.{Emptied, Narrows}
@@ -88,9 +88,6 @@ module _ (b : List ℕ) (acc : Accepted b) (L : List Entry) {D W X N : List ℕ}
     -- ---- the store that propagation starts from
     met-has : (k v : ℕ) → has (meet D c m) k v ≡ (has D k v && (not (eqb c k) || bit v m))
     met-has k v = meet-has D c m k v (omega (arith, d .columns, columns-range b (accepted-right b acc .head) .1))
-
-    met-within : Within (meet D c m) D
-    met-within = record { at = λ k v e. and-l (has D k v) _ (sym (met-has k v) ∙ e) }
 
     pub met-store : storeIn b (meet D c m) ≡ meet E c m
     unfolding has
@@ -172,7 +169,7 @@ module _ (b : List ℕ) (acc : Accepted b) (L : List Entry) {D W X N : List ℕ}
                     ∙ allIn-e (bk .sheets) (supportedIn E k v) (rested .supported k v (sym (same-has k v) ∙ e)) own (sheet-in a);
               };
               within = met-within;
-              same = λ k f. getD-set-other D c k (bitAnd (getD D c 0) m) 0 (λ x. false≢true (sym f ∙ ap (λ (i : ℕ). bit i ((1 * 2 ^ c) % 2 ^ 32)) x ∙ own-bit));
+              same = λ k f. getD-set-other D c k (bitAnd (getD D c 0) m) 0 (λ x. false≢true (sym f ∙ ap (λ (i : ℕ). bit i ((1 * 2 ^ c) % 2 ^ 32)) x ∙ shifted-bit 32 c (omega (arith, small))));
             };
         quiet = λ s q e. (
           refl,
@@ -187,8 +184,8 @@ module _ (b : List ℕ) (acc : Accepted b) (L : List Entry) {D W X N : List ℕ}
           small : c < 16
           small = omega (arith, columns-range b (accepted-right b acc .head) .1)
 
-          own-bit : bit c ((1 * 2 ^ c) % 2 ^ 32) ≡ true
-          own-bit = rw (shifted-one 32 c (omega (arith, small))) (bit-pow c)
+          met-within : Within (meet D c m) D
+          met-within = meet-within D c m (omega (arith, small, d .columns))
 
           rested : Consistent (columnCount bk) (supported bk) E
           rested = consistent-from bk E (domains-store bk L) stood

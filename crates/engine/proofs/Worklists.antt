@@ -13,7 +13,7 @@ use lib.Dec.{eqb, ltb}
 use lib.ListN.{List·getD-eq-default, getD, getD-replicate, length, length-replicate, length-set, replicate, set}
 use lib.Pow.{pow-lt}
 use lib.Seq.{getD-set-other, getD-set-same}
-use borrow.Author.Tests.{eqb-false, eqb-true, le-ltb, lt-ltb}
+use borrow.Author.Tests.{eqb-false, eqb-true, le-ltb, lt-ltb, not-false}
 use Rattle.model.specs.Masks.{bit}
 use Rattle.model.proofs.Masks.{bit-and, bit-of-zero, bit-or, bit-pow, bit-pow-only, bit-pow-other, mask-ext, ones32}
 use Rattle.model.proofs.Tests.{and-false, and-i, and-true, below, either, or-e, or-l, or-r}
@@ -248,10 +248,6 @@ woken-same {M} {G} {G′} {s} {lost} {waiting} {waiting′} h l e =
     ∙ (rw (e, and-zero-r (getD M f 0), and-false (not (eqb f s)), or-false (bit f waiting)) refl))
 
 -- ---- sheets that a set of columns touches
-not-false : (x : Bool) → not x ≡ false → x ≡ true
-not-false true p = refl
-not-false false p = absurd (false≢true (sym p))
-
 -- a sheet with a column in `lost` is one of the book's
 
 pub touched-sheet : {b begins M : List ℕ} → LayoutOf b begins M → (s lost : ℕ) → touches (getD M s 0) lost ≡ true → s < sheetsOf b

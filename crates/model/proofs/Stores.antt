@@ -16,7 +16,7 @@ use borrow.Author.Tests.{eqb-true, eqb-false, eq-eqb, ne-eqb}
 use Rattle.model.specs.Tests.{anyBelow, oneIf, sum, tab}
 use Rattle.model.specs.Masks.{bit, maskOf}
 use Rattle.model.specs.Stores.{has, Within, IsStore, storeOf, emptyStore, meet, assign, allFilled, values}
-use Rattle.model.proofs.Tests.{and-true, either, allBelow-e, allBelow-i, anyBelow-e, anyBelow-i, sum-le, sum-eq, oneIf-le, oneIf-eq, length-tab, getD-tab, getD-tab-out, tab-same, below}
+use Rattle.model.proofs.Tests.{and-l, and-true, either, allBelow-e, allBelow-i, anyBelow-e, anyBelow-i, sum-le, sum-eq, oneIf-le, oneIf-eq, length-tab, getD-tab, getD-tab-out, tab-same, below}
 use Rattle.model.proofs.Masks.{bit-of-zero, bit-maskOf, maskOf-lt, maskOf-same, mask-ext, bit-and, bit-maskOf-out, bit-below, bit-pow, bit-pow-only}
 
 pub has-i : (C : ℕ) (f : ℕ → ℕ → Bool) (c v : ℕ) → c < C → v < 32 → f c v ≡ true → has (storeOf C f) c v ≡ true
@@ -138,6 +138,9 @@ meet-has D c m k v l = go (same-or-other D c (bitAnd (getD D c 0) m) k l)
         → bit v (getD (meet D c m) k 0) ≡ (bit v (getD D k 0) && (not (eqb c k) || bit v m))
     go (inl p) = rw (p .1, eq-eqb c k (p .0)) (bit-and v (getD D c 0) m ∙ ap (λ (j : ℕ). bit v (getD D j 0) && bit v m) (p .0))
     go (inr q) = rw (q .1, ne-eqb c k (q .0)) (sym (and-true (bit v (getD D k 0))))
+
+pub meet-within : (D : List ℕ) (c m : ℕ) → c < length D → Within (meet D c m) D
+meet-within D c m l = record { at = λ k v e. and-l (has D k v) _ (sym (meet-has D c m k v l) ∙ e) }
 
 pub meet-store : (C : ℕ) (D : List ℕ) (c m : ℕ) → IsStore C D → c < C → IsStore C (meet D c m)
 meet-store C D c m d l =

@@ -1,5 +1,5 @@
 -- What a run of a list gives: its number, and the answer space when it is over. b and o are the bytes of the book and of the orders: `bookOf b`
--- (book, Decoding) is the book that they stand for, `ordersOf o` (engine, Lists) the orders, 8 bytes each. Quoted are document 01 and the demands.
+-- (book, Decoding) is the book that they stand for, `ordersOf o` (sessions, Lists) the orders, 8 bytes each. Quoted are document 01 and the demands.
 use mathlib.Core.Path.{_≡_}
 use mathlib.Core.Bool.{Bool, _||_, cond, false, not}
 use mathlib.Core.List.{List}
@@ -39,7 +39,7 @@ unfoldable pub runResult : List ℕ → List ℕ → ℕ → ℕ
 runResult b o room =
     cond (eqb (runRefusal b o room) 0) (acceptedCount (bookOf b) (ordersOf o)) (runRefusal b o room)
 
--- the answer space at the end: the answers, and then what was there (`written`, Spaces); "a refused run writes nothing"
+-- the answer space at the end: the answers, and then what was there (`written`: answers, Spaces); "a refused run writes nothing"
 unfoldable pub runSpace : List ℕ → List ℕ → List ℕ → List ℕ
 runSpace b o space =
     cond (eqb (runRefusal b o (length space)) 0) (written (answers (bookOf b) (ordersOf o)) space) space

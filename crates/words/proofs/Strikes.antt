@@ -12,16 +12,16 @@ use lib.ListN.{getD, length, length-set, replicate, set}
 use lib.Seq.{getD-set-other, getD-set-same}
 use borrow.Author.Tests.{eq-eqb, eqb-true}
 use Rattle.model.specs.Masks.{bit}
-use Rattle.model.specs.Stores.{IsStore, Within, has, meet, values}
-use Rattle.model.proofs.Masks.{bit-and, bit-or, bit-pow}
-use Rattle.model.proofs.Stores.{meet-has, meet-store, values-fall, within-refl, within-trans}
-use Rattle.model.proofs.Tests.{and-i, and-l, and-r, below, either, or-false-l, or-false-r}
+use Rattle.model.specs.Stores.{IsStore, has, meet, values}
+use Rattle.model.proofs.Masks.{bit-and, bit-or}
+use Rattle.model.proofs.Stores.{meet-has, meet-store, meet-within, values-fall, within-refl, within-trans}
+use Rattle.model.proofs.Tests.{and-i, and-r, below, either, or-false-l, or-false-r}
 use Rattle.heads.specs.Heads.{columnOf, widthOf}
 use Rattle.words.specs.Sheets.{AtSheet, SetSupport, Loses, Struck, StruckPlace, StruckTo, Supported, Wanted}
 use Rattle.words.proofs.Gathers.{same-sets}
 use Rattle.words.proofs.Indexes.{set-below}
 use Rattle.words.proofs.Places.{column-below, width-most}
-use Rattle.cells.proofs.Walks.{shifted-one}
+use Rattle.cells.proofs.Walks.{shifted-bit}
 
 pub loses-none : {D : List ℕ} → IsStore 16 D → Loses D D 0
 loses-none {D} d =
@@ -74,15 +74,12 @@ module _ {b : List ℕ} {begin s : ℕ} (j y : ℕ) {D : List ℕ} (a : AtSheet 
     met : (k v : ℕ) → has (meet D c y) k v ≡ (has D k v && (not (eqb c k) || bit v y))
     met k v = meet-has D c y k v inside
 
-    met-within : Within (meet D c y) D
-    met-within = record { at = λ k v e. and-l (has D k v) _ (sym (met k v) ∙ e) }
-
     pub struck-some : StruckPlace b s j y D (meet D c y) ((1 * 2 ^ c) % 2 ^ 32)
     struck-some = record {
       loses = record {
         store = meet-store 16 D c y d small;
-        within = met-within;
-        unchanged = λ k e. getD-set-other D c k (bitAnd (getD D c 0) y) 0 (λ q. false≢true (sym (rw q at e) ∙ here));
+        within = meet-within D c y inside;
+        unchanged = λ k e. getD-set-other D c k (bitAnd (getD D c 0) y) 0 (λ q. false≢true (sym (rw q at e) ∙ shifted-bit 32 c (omega (arith, small))));
         fewer = omega (arith, fall);
         falls = λ q. fall;
       };
@@ -90,12 +87,9 @@ module _ {b : List ℕ} {begin s : ℕ} (j y : ℕ) {D : List ℕ} (a : AtSheet 
       left = λ v m e. own v (and-r (has D c v) _ (sym (met c v) ∙ (rw (← ec) at e)));
     }
       where
-        here : bit c ((1 * 2 ^ c) % 2 ^ 32) ≡ true
-        here = rw (shifted-one 32 c (omega (arith, small))) (bit-pow c)
-
         fall : values 16 (meet D c y) < values 16 D
         fall =
-            values-fall 16 (meet D c y) D (meet-store 16 D c y d small) d met-within
+            values-fall 16 (meet D c y) D (meet-store 16 D c y d small) d (meet-within D c y inside)
             (λ e. n (sym (getD-set-same D c (bitAnd (getD D c 0) y) 0 inside) ∙ ap (λ (x : List ℕ). getD x c 0) e))
 
         own : (v : ℕ) → (not (eqb c c) || bit v y) ≡ true → bit v y ≡ true

@@ -1,14 +1,15 @@
 -- The worked examples, by computation. A wrong definition shows here first. Assumes nothing.
 use mathlib.Core.Path.{refl}
 use Rattle.heads.proofs.Acceptance.{computing as head-computing}
-use Rattle.book.specs.Rows.{blocksOf, firstBlock, blocksNeeded, rowPlace, placeBound, boundOf, wrongByte, wrongBlock, wrongSheet, kindOf, faultAt, faultInBlock, faultInSheet, firstFault}
+use Rattle.book.specs.Rows.{blocksOf, firstBlock, blocksNeeded, rowPlace, isValue, boundOf, wrongByte, wrongBlock, wrongSheet, kindOf, faultAt, faultInBlock, faultInSheet, firstFault}
 use Rattle.book.specs.Verdicts.{verdict, checkResult}
+use Rattle.book.specs.Places.{placeSheet, placeRow, wrongCell, placeByte, placeColumn}
 use Rattle.book.specs.Decoding.{rowOf, sheetOf, bookOf}
-use Rattle.book.specs.Acceptance.{sealed, HarbourFacts, RowFacts}
+use Rattle.book.specs.Acceptance.{sealed, HarbourFacts, NumberFacts, PlaceFacts, RowFacts}
 
 -- opens every definition that an example computes with; where one is missing, the example fails uncomputed, and not with `true` against `false`
 unfoldable pub computing : Unit {0}
-unfolding head-computing blocksOf firstBlock blocksNeeded rowPlace placeBound boundOf wrongByte wrongBlock wrongSheet kindOf faultAt faultInBlock faultInSheet firstFault verdict checkResult rowOf sheetOf bookOf sealed
+unfolding head-computing blocksOf firstBlock blocksNeeded rowPlace isValue boundOf wrongByte wrongBlock wrongSheet kindOf faultAt faultInBlock faultInSheet firstFault verdict checkResult placeSheet placeRow wrongCell placeByte placeColumn rowOf sheetOf bookOf sealed
 computing = tt
 
 pub harbourFacts : HarbourFacts
@@ -35,10 +36,29 @@ rowFacts = record {
   filler = refl;
   filler-kind = refl;
   unused-row = refl;
+  unused-kind = refl;
   next-block = refl;
   next-unused = refl;
+}
+
+pub numberFacts : NumberFacts
+numberFacts = record {
   large = refl;
-  unused = refl;
-  block-end = refl;
-  block-start = refl;
+  filler = refl;
+  next = refl;
+  last = refl;
+}
+
+pub placeFacts : PlaceFacts
+unfolding computing
+placeFacts = record {
+  first-sheet = refl;
+  first-row = refl;
+  last-sheet = refl;
+  last-row = refl;
+  next-sheet = refl;
+  next-row = refl;
+  second-block = refl;
+  second-byte = refl;
+  second-column = refl;
 }

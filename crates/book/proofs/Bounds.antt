@@ -10,18 +10,18 @@ use native.Mathlib.Omega.{arith}
 use lib.Dec.{eqb, ltb, leb}
 use lib.Bits.{bitOr, or-add-and, and-le-l, and-le-r, or-lt, or-block}
 use lib.ListN.{length}
-use borrow.Author.Tests.{ltb-true, leb-true, leb-false, le-leb, lt-leb, eqb-true, lt-ltb, le-ltb, not-false}
+use borrow.Author.Tests.{ltb-false, ltb-true, leb-true, leb-false, le-leb, lt-leb, eqb-true, lt-ltb, le-ltb, not-false}
 use Rattle.fields.specs.Bytes.{byteAt}
 use Rattle.model.specs.Masks.{bit}
-use Rattle.model.specs.Tests.{Finds, NoneIn}
-use Rattle.model.proofs.Firsts.{finds-empty, finds-more, finds-same, finds-any, finds-fours}
+use Rattle.model.specs.Tests.{Finds, FirstIn, NoneIn}
+use Rattle.model.proofs.Firsts.{finds-empty, finds-more, finds-same, finds-any, finds-fours, firstIn-same}
 use Rattle.model.proofs.Masks.{bit-or}
 use Rattle.model.proofs.Tests.{and-l, and-r, below, or-false-l, or-false-r, or-mono, or-swap, either}
 use Rattle.heads.specs.Blocks.{word, blockAt}
-use Rattle.book.specs.Bounds.{anyHigh, belowBounds, joined, overBounds, raisedRow, slackOf, BoundedSheet, SmallBounds, fourth, usedRows, wrongIn}
+use Rattle.book.specs.Bounds.{anyHigh, belowBounds, joined, overBounds, raisedRow, slackOf, BoundedSheet, SmallBounds, fourth, placeBound, usedRows, wrongIn}
 use Rattle.heads.specs.Limits.{setAt}
 use Rattle.heads.specs.Heads.{rowsOf}
-use Rattle.book.specs.Rows.{blocksOf, boundOf, firstBlock, placeBound, wrongBlock, wrongByte}
+use Rattle.book.specs.Rows.{blocksOf, boundOf, firstBlock, isValue, wrongBlock, wrongByte}
 use Rattle.heads.proofs.Blocks.{block-byte}
 use Rattle.heads.proofs.Limits.{set-leb}
 
@@ -264,6 +264,15 @@ module _ (w x y z n : ℕ) (block : List ℕ) (s : SmallBounds w x y z) (zero-re
           )
 
 -- ---- block q of sheet s
+-- the bound of a byte of a used row, and of one that is not
+pub bound-used : (b : List ℕ) (s r j : ℕ) → r < rowsOf b s → boundOf b s r j ≡ placeBound b s j
+unfolding boundOf isValue placeBound
+bound-used b s r j p = rw (lt-ltb r (rowsOf b s) p)
+
+bound-unused : (b : List ℕ) (s r j : ℕ) → rowsOf b s ≤ r → boundOf b s r j ≡ 1
+unfolding boundOf isValue
+bound-unused b s r j p = rw (le-ltb r (rowsOf b s) p)
+
 -- the four bounds of a row
 fourth-bound : (b : List ℕ) (s j : ℕ) → j < 4
     → fourth (placeBound b s 0) (placeBound b s 1) (placeBound b s 2) (placeBound b s 3) j ≡ placeBound b s j
@@ -294,15 +303,15 @@ module _ (b : List ℕ) (s q : ℕ) (there : 512 * (firstBlock b s + q) + 512 �
   seenWrong = wrongIn (placeBound b s 0) (placeBound b s 1) (placeBound b s 2) (placeBound b s 3) (blockAt b (firstBlock b s + q)) (4 * usedRows (rowsOf b s) q)
 
   same-byte : (i : ℕ) → i < 508 → seenWrong i ≡ wrongByte b s q i
-  unfolding wrongIn wrongByte boundOf
+  unfolding wrongIn wrongByte
   same-byte i p = go (either (ltb (127 * q + i / 4) (rowsOf b s)))
     where
       byte : byteAt (blockAt b (firstBlock b s + q)) i ≡ byteAt b (512 * (firstBlock b s + q) + i)
       byte = block-byte b (firstBlock b s + q) there i (omega arith)
 
       go : (ltb (127 * q + i / 4) (rowsOf b s) ≡ true) ⊎ (ltb (127 * q + i / 4) (rowsOf b s) ≡ false) → seenWrong i ≡ wrongByte b s q i
-      go (inl e) = rw (used i p, e, fourth-bound b s (i % 4) (mod-lt i (omega arith)), byte)
-      go (inr e) = rw (used i p, e, byte) (set-leb (byteAt b (512 * (firstBlock b s + q) + i)))
+      go (inl e) = rw (used i p, e, fourth-bound b s (i % 4) (mod-lt i (omega arith)), byte, bound-used b s (127 * q + i / 4) (i % 4) (ltb-true _ _ e))
+      go (inr e) = rw (used i p, e, byte, bound-unused b s (127 * q + i / 4) (i % 4) (ltb-false _ _ e)) (set-leb (byteAt b (512 * (firstBlock b s + q) + i)))
 
   -- so a look at the block tells whether it is wrong
   block-wrong : (r : Bool) → Finds seenWrong 0 508 r → r ≡ wrongBlock b s q
@@ -317,3 +326,12 @@ unfolding blocksOf
 block-seen b block s q start w x y z n used r m p hb hn hu h =
     let k = m .bounds in
     block-wrong b s q (omega arith) (omega arith) r (rw (k .first, k .second, k .third, k .last, hb, hu, hn, m .starts) at h)
+
+-- and where its first wrong byte is
+pub block-first : (b block : List ℕ) (s q start w x y z n used i : ℕ)
+    → BoundedSheet b s start w x y z → q < blocksOf b s → block ≡ blockAt b (start + q) → n ≡ rowsOf b s → used ≡ usedRows n q
+    → FirstIn (wrongIn w x y z block (4 * used)) 0 508 i → FirstIn (wrongByte b s q) 0 508 i
+unfolding blocksOf
+block-first b block s q start w x y z n used i m p hb hn hu h =
+    let k = m .bounds in
+    firstIn-same (λ j l o. same-byte b s q (omega arith) (omega arith) j o) (rw (k .first, k .second, k .third, k .last, hb, hu, hn, m .starts) at h)

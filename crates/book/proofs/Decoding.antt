@@ -11,15 +11,18 @@ use borrow.Author.Tests.{eqb-false, eqb-true, leb-false, lt-ltb}
 use Rattle.fields.specs.Bytes.{byteAt}
 use Rattle.model.specs.Books.{WellFormed, WellFormedSheet}
 use Rattle.model.specs.Tests.{NoneIn, tab}
-use Rattle.model.proofs.Firsts.{any-none, lowest-firstIn, lowest-none}
+use Rattle.model.proofs.Firsts.{any-none}
 use Rattle.model.proofs.Tests.{below, either, getD-tab, length-tab}
-use Rattle.heads.specs.Blocks.{RightChecks, RightLength, blockCount, wrongLength}
+use Rattle.heads.specs.Blocks.{RightChecks, RightLength, blockCount}
 use Rattle.book.specs.Decoding.{AcceptedWellFormed, bookOf, rowOf, sheetOf}
 use Rattle.heads.specs.Heads.{RightHead, columnOf, columnsOf, rowsOf, sheetsOf, valuesOf, widthOf}
-use Rattle.book.specs.Rows.{blockOf, blocksNeeded, blocksOf, boundOf, clean, firstBlock, firstFault, placeBound, rowPlace, wrongBlock, wrongByte, wrongSheet}
+use Rattle.book.specs.Rows.{blocksNeeded, blocksOf, clean, firstFault, rowPlace, wrongBlock, wrongByte, wrongSheet}
 use Rattle.book.specs.Verdicts.{Accepted, checkResult, refused}
-use Rattle.book.proofs.Rows.{clean-none, fault-zero, firstBlock-later}
-use Rattle.book.proofs.Verdicts.{result-accepted, result-blocks, result-check, result-field, result-length, result-row, right-length}
+use Rattle.book.specs.Bounds.{faultNumber, placeBound}
+use Rattle.book.specs.Places.{wrongCell}
+use Rattle.book.proofs.Bounds.{bound-used}
+use Rattle.book.proofs.Rows.{clean-none, firstBlock-later, row-byte}
+use Rattle.book.proofs.Verdicts.{later-blocks, later-checks, later-head, later-length, number-large, number-zero, result-accepted, result-row, right-length}
 use Rattle.heads.proofs.Heads.{column-inside, column-rises, columns-range, rows-most, sheets-most, values-range, width-range}
 
 -- ---- nothing is wrong
@@ -30,40 +33,28 @@ pub record RightBook (b : List ℕ) : Type 0 where
   pub blocks : blocksNeeded b ≡ blockCount b
   pub rows : firstFault b ≡ clean
 
--- a number that is a refusal's is no accepted one
-refuses : (b : List ℕ) (n place : ℕ) → Accepted b → 1 ≤ n → checkResult b ≡ refused n place → ⊥
-refuses b n place a h e = omega arith
-
 module _ (b : List ℕ) (a : Accepted b) where
-  right1 : wrongLength b ≡ false
-  right1 = go (either (wrongLength b))
+  -- a number that is a refusal's is no accepted one
+  later : (n place : ℕ) → 1 ≤ n → n ≤ 4 → place < 65536 → checkResult b ≡ refused n place → ⊥
+  later n place p q r e = omega arith
+
+  no-fault : firstFault b ≡ clean
+  no-fault = go (either (eqb (faultNumber (firstFault b)) 0))
     where
-      go : (wrongLength b ≡ true) ⊎ (wrongLength b ≡ false) → wrongLength b ≡ false
-      go (inl e) = absurd (refuses b 1 0 a (omega arith) (result-length b e))
-      go (inr e) = e
-
-  right2 : RightChecks b
-  right2 = lowest-none (blockCount b) (λ l. refuses b 2 _ a (omega arith) (result-check b right1 _ (lowest-firstIn (blockCount b)) l))
-
-  right3 : RightHead b
-  right3 = lowest-none 508 (λ l. refuses b 3 _ a (omega arith) (result-field b right1 right2 _ (lowest-firstIn 508) l))
-
-  right4 : blocksNeeded b ≡ blockCount b
-  right4 = go (either (eqb (blocksNeeded b) (blockCount b)))
-    where
-      go : (eqb (blocksNeeded b) (blockCount b) ≡ true) ⊎ (eqb (blocksNeeded b) (blockCount b) ≡ false) → blocksNeeded b ≡ blockCount b
-      go (inl e) = eqb-true (blocksNeeded b) (blockCount b) e
-      go (inr e) = absurd (refuses b 4 _ a (omega arith) (result-blocks b right1 right2 right3 (eqb-false (blocksNeeded b) (blockCount b) e)))
-
-  right5 : firstFault b ≡ clean
-  right5 = go (either (eqb (blockOf (firstFault b)) 0))
-    where
-      go : (eqb (blockOf (firstFault b)) 0 ≡ true) ⊎ (eqb (blockOf (firstFault b)) 0 ≡ false) → firstFault b ≡ clean
-      go (inl e) = fault-zero b (eqb-true (blockOf (firstFault b)) 0 e)
-      go (inr e) = absurd (refuses b 5 _ a (omega arith) (result-row b right1 right2 right3 right4 (eqb-false (blockOf (firstFault b)) 0 e)))
+      go : (eqb (faultNumber (firstFault b)) 0 ≡ true) ⊎ (eqb (faultNumber (firstFault b)) 0 ≡ false) → firstFault b ≡ clean
+      go (inl e) = number-zero (firstFault b) (eqb-true (faultNumber (firstFault b)) 0 e)
+      go (inr e) =
+          let h = eqb-false (faultNumber (firstFault b)) 0 e in
+          absurd (omega (arith, result-row b (later-length b later) (later-checks b later) (later-head b later) (later-blocks b later) h, number-large (firstFault b) h))
 
   pub accepted-right : RightBook b
-  accepted-right = record { length-right = right1; checks = right2; head = right3; blocks = right4; rows = right5 }
+  accepted-right = record {
+    length-right = later-length b later;
+    checks = later-checks b later;
+    head = later-head b later;
+    blocks = later-blocks b later;
+    rows = no-fault;
+  }
 
 -- ---- so every row value is below its column's V
 module _ (b : List ℕ) (h : RightBook b) where
@@ -78,13 +69,10 @@ module _ (b : List ℕ) (h : RightBook b) where
 
     -- byte j of row r, which is used, is below its bound
     pub byte-below : (r j : ℕ) → r < rowsOf b s → j < 4 → byteAt b (rowPlace b s r + j) < placeBound b s j
-    unfolding wrongByte boundOf rowPlace blocksOf
+    unfolding wrongCell blocksOf
     byte-below r j p l =
-        let er : 127 * (r / 127) + (4 * (r % 127) + j) / 4 ≡ r = omega arith in
-        let ej : (4 * (r % 127) + j) % 4 ≡ j = omega arith in
-        let ep : 512 * (firstBlock b s + r / 127) + (4 * (r % 127) + j) ≡ 512 * (firstBlock b s + r / 127) + 4 * (r % 127) + j = omega arith in
         let e = no-wrong-byte (r / 127) (4 * (r % 127) + j) (omega arith) (omega arith) in
-        leb-false _ _ (rw (er, ej, lt-ltb r (rowsOf b s) p, ep) at e)
+        leb-false _ _ (rw (row-byte b s r j l, bound-used b s r j p) at e)
 
     -- at a place of the width that is its column's V
     pub value-below : (r j : ℕ) → r < rowsOf b s → j < widthOf b s → byteAt b (rowPlace b s r + j) < valuesOf b (columnOf b s j)

@@ -3,4 +3,5 @@ pub mod Acceptance
 pub mod Rows
 pub mod Bounds
 pub mod Verdicts
+pub mod Places
 pub mod Decoding

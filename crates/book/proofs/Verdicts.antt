@@ -1,20 +1,23 @@
 -- The number of a check, cause by cause. Assumes nothing.
 use mathlib.Core.Path.{_≡_, refl, _∙_}
 use mathlib.Core.Bool.{true, false, not}
+use mathlib.Core.Logic.{_⊎_, inl, inr}
 use mathlib.Core.List.{List}
-use Prim.Native.Nat.{ℕ, _+_, _*_, _%_, _≤_, _<_}
+use Prim.Native.Nat.{ℕ, _+_, _*_, _/_, _%_, _≤_, _<_}
 use native.Mathlib.Omega.{arith}
 use lib.Dec.{eqb, ltb}
 use lib.ListN.{length}
-use borrow.Author.Tests.{eqb-true, lt-ltb, le-ltb, eq-eqb, ne-eqb, not-false}
+use borrow.Author.Tests.{eqb-false, eqb-true, lt-ltb, le-ltb, eq-eqb, ne-eqb, not-false}
 use Rattle.model.specs.Tests.{FirstIn, lowest}
-use Rattle.model.proofs.Firsts.{firstIn-lowest, none-lowest}
-use Rattle.model.proofs.Tests.{or-false-l, or-false-r}
+use Rattle.model.proofs.Firsts.{firstIn-lowest, lowest-firstIn, lowest-none, none-lowest}
+use Rattle.model.proofs.Tests.{either, or-false-l, or-false-r}
 use Rattle.heads.specs.Blocks.{RightChecks, RightLength, blockCount, firstWrongCheck, wrongCheck, wrongLength}
 use Rattle.heads.specs.Heads.{RightHead, columnsOf, firstWrongField, sheetsOf, wrongField}
-use Rattle.book.specs.Rows.{RowFault, blockOf, blocksNeeded, clean, fault, firstFault}
+use Rattle.book.specs.Rows.{RowFault, blocksNeeded, clean, fault, faultAt, firstBlock, firstFault, isValue, kindOf, notZero, tooLarge}
 use Rattle.book.specs.Verdicts.{checkResult, numberOf, refused, rowVerdict, verdict}
+use Rattle.book.specs.Bounds.{faultNumber}
 use Rattle.heads.proofs.Limits.{in-range}
+use Rattle.book.proofs.Rows.{blocks-most}
 
 -- a right length is that of 1 to 33 blocks
 pub right-length : (b : List ℕ) → RightLength b → (512 * blockCount b ≡ length b) × (1 ≤ blockCount b) × (blockCount b ≤ 33)
@@ -53,19 +56,71 @@ module _ (b : List ℕ) where
         result-blocks h = rw (h1, checks, fields, ne-eqb _ _ h)
 
         module _ (h4 : blocksNeeded b ≡ blockCount b) where
-          last : checkResult b ≡ numberOf (rowVerdict b (firstFault b))
+          pub result-rows : checkResult b ≡ numberOf (rowVerdict b (firstFault b))
           unfolding checkResult verdict
-          last = rw (h1, checks, fields, eq-eqb _ _ h4)
+          result-rows = rw (h1, checks, fields, eq-eqb _ _ h4)
 
-          pub result-row : (blockOf (firstFault b) ≡ 0 → ⊥) → checkResult b ≡ refused 5 (blockOf (firstFault b))
-          result-row h = last ∙ go (firstFault b) h
+          pub result-row : (faultNumber (firstFault b) ≡ 0 → ⊥) → checkResult b ≡ faultNumber (firstFault b)
+          result-row h = result-rows ∙ go (firstFault b) h
             where
-              go : (f : RowFault) → (blockOf f ≡ 0 → ⊥) → numberOf (rowVerdict b f) ≡ refused 5 (blockOf f)
+              go : (f : RowFault) → (faultNumber f ≡ 0 → ⊥) → numberOf (rowVerdict b f) ≡ faultNumber f
               go clean k = absurd (k refl)
-              go (fault place kind) k = refl
+              go (fault offset kind) k = refl
 
           pub result-accepted : firstFault b ≡ clean → checkResult b ≡ columnsOf b * 16 + sheetsOf b
-          result-accepted h = last ∙ rw h
+          result-accepted h = result-rows ∙ rw h
+
+-- ---- the number of a fault
+module _ (b : List ℕ) (s q i : ℕ) where
+  place : (512 * (firstBlock b s + q) + i) / 4 ≡ 128 * (firstBlock b s + q) + i / 4
+  place = omega arith
+
+  -- of a value
+  pub number-value : isValue b s (127 * q + i / 4) (i % 4) ≡ true → faultNumber (faultAt b s q i) ≡ refused 5 (128 * (firstBlock b s + q) + i / 4)
+  unfolding faultAt kindOf
+  number-value e = rw (e, place)
+
+  -- of filler
+  pub number-filler : isValue b s (127 * q + i / 4) (i % 4) ≡ false → faultNumber (faultAt b s q i) ≡ refused 6 (128 * (firstBlock b s + q) + i / 4)
+  unfolding faultAt kindOf
+  number-filler e = rw (e, place)
+
+-- a fault has a number
+pub number-zero : (f : RowFault) → faultNumber f ≡ 0 → f ≡ clean
+number-zero clean e = refl
+number-zero (fault offset tooLarge) e = absurd (omega arith)
+number-zero (fault offset notZero) e = absurd (omega arith)
+
+-- which is no accepted one
+pub number-large : (f : RowFault) → (faultNumber f ≡ 0 → ⊥) → 65536 ≤ faultNumber f
+number-large clean h = absurd (h refl)
+number-large (fault offset tooLarge) h = omega arith
+number-large (fault offset notZero) h = omega arith
+
+-- ---- a number that is none of refusals 1 to 4: all but the rows is right
+module _ (b : List ℕ) (later : (n place : ℕ) → 1 ≤ n → n ≤ 4 → place < 65536 → checkResult b ≡ refused n place → ⊥) where
+  pub later-length : RightLength b
+  later-length = go (either (wrongLength b))
+    where
+      go : (wrongLength b ≡ true) ⊎ (wrongLength b ≡ false) → wrongLength b ≡ false
+      go (inl e) = absurd (later 1 0 (omega arith) (omega arith) (omega arith) (result-length b e))
+      go (inr e) = e
+
+  pub later-checks : RightChecks b
+  later-checks =
+      lowest-none (blockCount b)
+      (λ l. later 2 _ (omega arith) (omega arith) (omega (arith, right-length b later-length .2)) (result-check b later-length _ (lowest-firstIn (blockCount b)) l))
+
+  pub later-head : RightHead b
+  later-head = lowest-none 508 (λ l. later 3 _ (omega arith) (omega arith) (omega arith) (result-field b later-length later-checks _ (lowest-firstIn 508) l))
+
+  pub later-blocks : blocksNeeded b ≡ blockCount b
+  later-blocks = go (either (eqb (blocksNeeded b) (blockCount b)))
+    where
+      go : (eqb (blocksNeeded b) (blockCount b) ≡ true) ⊎ (eqb (blocksNeeded b) (blockCount b) ≡ false) → blocksNeeded b ≡ blockCount b
+      go (inl e) = eqb-true (blocksNeeded b) (blockCount b) e
+      go (inr e) =
+          absurd (later 4 _ (omega arith) (omega arith) (omega (arith, blocks-most b later-head)) (result-blocks b later-length later-checks later-head (eqb-false (blocksNeeded b) (blockCount b) e)))
 
 -- a right length is that of a head at least
 pub head-there : (b : List ℕ) → RightLength b → 512 ≤ length b

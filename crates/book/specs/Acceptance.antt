@@ -10,7 +10,10 @@ use Rattle.fields.specs.Bytes.{wordBytes}
 use Rattle.model.specs.Acceptance.{H}
 use Rattle.heads.specs.Acceptance.{head, padded}
 use Rattle.heads.specs.Blocks.{checkOf}
-use Rattle.book.specs.Rows.{blocksOf, blocksNeeded, rowPlace, wrongByte, tooLarge, notZero, fault, kindOf, firstFault, blockOf}
+use Rattle.book.specs.Rows.{blocksOf, blocksNeeded, rowPlace, wrongByte, tooLarge, notZero, fault, kindOf}
+use Rattle.book.specs.Verdicts.{refused}
+use Rattle.book.specs.Places.{placeByte, placeColumn, placeRow, placeSheet}
+use Rattle.book.specs.Bounds.{faultNumber}
 use Rattle.book.specs.Decoding.{bookOf}
 
 -- ---- books as bytes
@@ -54,12 +57,12 @@ pub record HarbourFacts : Type 0 where
   pub check1 : wordBytes (checkOf (padded rows0) 1) ≡ 6 ∷ 2 ∷ 0 ∷ 0 ∷ []
   pub check2 : wordBytes (checkOf (padded rows1) 2) ≡ 4 ∷ 2 ∷ 0 ∷ 0 ∷ []
 
--- a sheet of one column with 128 rows: row 127 is the first of its second block
-abbrev pub long : List ℕ
-long = sealed 0 (set bothHead 30 128 ∷ [] ∷ (1 ∷ 0 ∷ 0 ∷ 0 ∷ 1 ∷ []) ∷ [])
+-- a sheet of one column with 128 rows: row 127, of value v, is the first of its second block, and the first unused row is not zero
+abbrev pub longRows : ℕ → List ℕ
+longRows v = sealed 0 (set bothHead 30 128 ∷ [] ∷ (v ∷ 0 ∷ 0 ∷ 0 ∷ 1 ∷ []) ∷ [])
 
 -- blocks at the edges, "508 rows is 4 blocks" among them; where rows stand; a value, a filler and an unused row at their limits, in a second
--- block too; the first fault, what it is and where, and its block
+-- block too
 pub record RowFacts : Type 0 where
   pub rows0 : blocksOf (set head 30 0) 0 ≡ 0
   pub rows1 : blocksOf (set head 30 1) 0 ≡ 1
@@ -73,9 +76,27 @@ pub record RowFacts : Type 0 where
   pub filler : wrongByte (both (set bothRows 1 1)) 0 0 1 ≡ true
   pub filler-kind : kindOf bothHead 0 0 1 ≡ notZero
   pub unused-row : wrongByte (both (set bothRows 8 1)) 0 0 8 ≡ true
-  pub next-block : wrongByte long 0 1 0 ≡ false
-  pub next-unused : wrongByte long 0 1 4 ≡ true
-  pub large : firstFault (both (set bothRows 4 2)) ≡ fault 516 tooLarge
-  pub unused : firstFault (both (set bothRows 507 1)) ≡ fault 1019 notZero
-  pub block-end : blockOf (fault 1023 notZero) ≡ 1
-  pub block-start : blockOf (fault 1024 notZero) ≡ 2
+  pub unused-kind : kindOf bothHead 0 2 0 ≡ notZero
+  pub next-block : wrongByte (longRows 1) 0 1 0 ≡ false
+  pub next-unused : wrongByte (longRows 1) 0 1 4 ≡ true
+
+-- "The place is the offset in the whole file divided by 4, rounded down": bytes 516 to 519 are one row; the last byte that can be at fault. Faults in whole
+-- books are worked in crate examples
+pub record NumberFacts : Type 0 where
+  pub large : faultNumber (fault 516 tooLarge) ≡ refused 5 129
+  pub filler : faultNumber (fault 519 notZero) ≡ refused 6 129
+  pub next : faultNumber (fault 520 tooLarge) ≡ refused 5 130
+  pub last : faultNumber (fault 16891 notZero) ≡ refused 6 4222
+
+-- from a place of H to the sheet and the row: the first and the last row of block 1, which is sheet 0's, and the first of block 2; and of a sheet of two
+-- blocks the first row of the second; the first wrong byte of a row, and its column
+pub record PlaceFacts : Type 0 where
+  pub first-sheet : placeSheet head 128 ≡ 0
+  pub first-row : placeRow head 128 ≡ 0
+  pub last-sheet : placeSheet head 254 ≡ 0
+  pub last-row : placeRow head 254 ≡ 126
+  pub next-sheet : placeSheet head 256 ≡ 1
+  pub next-row : placeRow head 256 ≡ 0
+  pub second-block : placeRow (longRows 2) 256 ≡ 127
+  pub second-byte : placeByte (both (set (set bothRows 5 1) 7 1)) 129 ≡ 1
+  pub second-column : placeColumn (set harbour 1025 2) 256 ≡ 2

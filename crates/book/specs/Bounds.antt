@@ -10,10 +10,16 @@ use lib.ListN.{length}
 use Rattle.model.specs.Masks.{bit}
 use Rattle.heads.specs.Blocks.{word}
 use Rattle.fields.specs.Bytes.{byteAt}
+use Rattle.heads.specs.Heads.{columnOf, valuesOf, widthOf}
 use Rattle.heads.specs.Limits.{setAt}
-use Rattle.book.specs.Rows.{blocksOf, firstBlock, placeBound}
+use Rattle.book.specs.Rows.{RowFault, blocksOf, clean, fault, firstBlock}
+use Rattle.book.specs.Verdicts.{faultVerdict, numberOf}
 
 -- ---- a block and its bounds
+-- what byte j of a used row of sheet s has to be below
+unfoldable pub placeBound : List ℕ → ℕ → ℕ → ℕ
+placeBound b s j = cond (ltb j (widthOf b s)) (valuesOf b (columnOf b s j)) 1
+
 -- number j of w, x, y, z
 abbrev pub fourth : ℕ → ℕ → ℕ → ℕ → ℕ → ℕ
 fourth w x y z j = cond (eqb j 0) w (cond (eqb j 1) x (cond (eqb j 2) y z))
@@ -77,3 +83,9 @@ slackOf w x y z = 128 - w + (128 - x) * 256 + (128 - y) * 65536 + (128 - z) * 16
 -- row r of a block, with k added, has a byte that is 128 or more
 unfoldable pub raisedRow : ℕ → List ℕ → ℕ → Bool
 raisedRow k block r = anyHigh ((word block r + k) % 2 ^ 32)
+
+-- ---- a fault as a number
+-- its refusal, or 0 where there is none
+abbrev pub faultNumber : RowFault → ℕ
+faultNumber clean = 0
+faultNumber (fault offset kind) = numberOf (faultVerdict offset kind)

@@ -25,13 +25,13 @@ unfoldable pub rowPlace : List ℕ → ℕ → ℕ → ℕ
 rowPlace b s r = 512 * (firstBlock b s + r / 127) + 4 * (r % 127)
 
 -- ---- what is wrong in a row
--- what byte j of a used row of sheet s has to be below: "k values, each below its column's V, then zeros"
-unfoldable pub placeBound : List ℕ → ℕ → ℕ → ℕ
-placeBound b s j = cond (ltb j (widthOf b s)) (valuesOf b (columnOf b s j)) 1
+-- byte j of row r of sheet s is a value: one of the k of a used row. Any other byte of a row, used or not, is filler
+unfoldable pub isValue : List ℕ → ℕ → ℕ → ℕ → Bool
+isValue b s r j = ltb r (rowsOf b s) && ltb j (widthOf b s)
 
--- the same of row r, used or not: "Unused rows are zero."
+-- what it has to be below: "k values, each below its column's V, then zeros. Unused rows are zero."
 unfoldable pub boundOf : List ℕ → ℕ → ℕ → ℕ → ℕ
-boundOf b s r j = cond (ltb r (rowsOf b s)) (placeBound b s j) 1
+boundOf b s r j = cond (isValue b s r j) (valuesOf b (columnOf b s j)) 1
 
 -- byte i of block q of sheet s, i < 508, is wrong: it belongs to row 127 q + i / 4
 unfoldable pub wrongByte : List ℕ → ℕ → ℕ → ℕ → Bool
@@ -46,7 +46,7 @@ unfoldable pub wrongSheet : List ℕ → ℕ → Bool
 wrongSheet b s = anyBelow (blocksOf b s) (wrongBlock b s)
 
 -- ---- the first fault
--- "a row value is too large or a byte that must be zero isn't"
+-- "Refusal 5 is now only for a value that is too large. A filler byte that isn't zero gets its own number."
 pub data Kind : Type 0 where
   tooLarge : Kind
   notZero : Kind
@@ -56,10 +56,9 @@ pub data RowFault : Type 0 where
   clean : RowFault
   fault : ℕ → Kind → RowFault
 
--- what is wrong at byte j of row r of sheet s, where something is: in a used row, a place of the width holds a value that is too large;
--- anywhere else it is a byte that must be zero
+-- what is wrong at byte j of row r of sheet s, where something is
 unfoldable pub kindOf : List ℕ → ℕ → ℕ → ℕ → Kind
-kindOf b s r j = cond (ltb r (rowsOf b s) && ltb j (widthOf b s)) tooLarge notZero
+kindOf b s r j = cond (isValue b s r j) tooLarge notZero
 
 -- the fault at byte i of block q of sheet s
 unfoldable pub faultAt : List ℕ → ℕ → ℕ → ℕ → RowFault
@@ -73,11 +72,6 @@ faultInBlock b s q = faultAt b s q (lowest 508 (wrongByte b s q))
 unfoldable pub faultInSheet : List ℕ → ℕ → RowFault
 faultInSheet b s = faultInBlock b s (lowest (blocksOf b s) (wrongBlock b s))
 
--- the first in the order of the file: sheet by sheet, block by block, byte by byte
+-- "the first fault in file order": sheet by sheet, block by block, byte by byte
 unfoldable pub firstFault : List ℕ → RowFault
 firstFault b = cond (ltb (lowest (sheetsOf b) (wrongSheet b)) (sheetsOf b)) (faultInSheet b (lowest (sheetsOf b) (wrongSheet b))) clean
-
--- the block of a fault, counted in the whole file, where the head is block 0; 0 where there is none
-abbrev pub blockOf : RowFault → ℕ
-blockOf clean = 0
-blockOf (fault place kind) = place / 512

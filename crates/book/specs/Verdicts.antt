@@ -1,27 +1,33 @@
 -- The verdict on a book, and the number that the call returns.
 use mathlib.Core.Bool.{cond, not}
 use mathlib.Core.List.{List}
-use Prim.Native.Nat.{ℕ, _+_, _*_, _<_}
+use Prim.Native.Nat.{ℕ, _+_, _*_, _/_, _<_}
 use lib.Dec.{ltb, eqb}
 use Rattle.heads.specs.Blocks.{wrongLength, blockCount, firstWrongCheck}
 use Rattle.heads.specs.Heads.{columnsOf, sheetsOf, firstWrongField}
-use Rattle.book.specs.Rows.{blocksNeeded, RowFault, clean, fault, firstFault, blockOf}
+use Rattle.book.specs.Rows.{blocksNeeded, Kind, RowFault, clean, fault, firstFault, tooLarge, notZero}
 
--- "Refused with" 1 to 5, each with its place, or "Accepted" with C and S
+-- "Refused with" 1 to 6, each with its place, or "Accepted" with C and S
 pub data Verdict : Type 0 where
   badLength : Verdict
   badCheck : ℕ → Verdict
   badField : ℕ → Verdict
   badBlocks : ℕ → Verdict
-  badRow : ℕ → Verdict
+  badValue : ℕ → Verdict
+  badFiller : ℕ → Verdict
   accepted : ℕ → ℕ → Verdict
 
--- "5 if a row value is too large or a byte that must be zero isn't, place the first such block", counted in the whole file
+-- "The place is the offset in the whole file divided by 4, rounded down, for the first fault in file order."
+abbrev pub faultVerdict : ℕ → Kind → Verdict
+faultVerdict offset tooLarge = badValue (offset / 4)
+faultVerdict offset notZero = badFiller (offset / 4)
+
 abbrev pub rowVerdict : List ℕ → RowFault → Verdict
 rowVerdict b clean = accepted (columnsOf b) (sheetsOf b)
-rowVerdict b (fault place kind) = badRow (blockOf (fault place kind))
+rowVerdict b (fault offset kind) = faultVerdict offset kind
 
--- "Where several apply, the lowest of these numbers is given." "4 if the blocks aren't 1 plus those of the sheets, place the number needed"
+-- "4 if the blocks aren't 1 plus those of the sheets, place the number needed". "Where several apply, the lowest of these numbers is given."; but
+-- "6 for filler, ranked with 5 by file order"
 unfoldable pub verdict : List ℕ → Verdict
 verdict b =
     cond (wrongLength b) badLength
@@ -34,13 +40,14 @@ verdict b =
 abbrev pub refused : ℕ → ℕ → ℕ
 refused n place = n * 65536 + place
 
--- this paper's number for each verdict. "Accepted: C × 16 + S."
+-- the papers' number for each verdict. "Refusal 5 is now only for a value that is too large." "6 for filler". "Accepted: C × 16 + S."
 abbrev pub numberOf : Verdict → ℕ
 numberOf badLength = refused 1 0
 numberOf (badCheck n) = refused 2 n
 numberOf (badField i) = refused 3 i
 numberOf (badBlocks n) = refused 4 n
-numberOf (badRow n) = refused 5 n
+numberOf (badValue place) = refused 5 place
+numberOf (badFiller place) = refused 6 place
 numberOf (accepted c s) = c * 16 + s
 
 -- "Each call returns one 64-bit number"

@@ -4,8 +4,11 @@
 // one (specs/Decoding.antt). Blocks, checks and the head are those of crate heads.
 //
 //   row      the sheets' blocks: how many, and the first with a wrong byte
+//   fault    that byte, and the refusal for it
+pub mod fault;
 pub mod row;
 
+use crate::fault::*;
 use crate::row::*;
 use heads::block::*;
 use heads::head::*;
@@ -23,7 +26,7 @@ pub fn refusal(n: u64, place: usize) -> u64
     n * 65536 + (place as u64)
 }
 
-// Of a book whose length, checks and head are right: refusal 4 or 5, or the accepted figure.
+// Of a book whose length, checks and head are right: refusal 4, 5 or 6, or the accepted figure.
 fn check_rows(book: &[u8]) -> u64
     requires { ⌜ RightLength (now book) × RightChecks (now book) × RightHead (now book) ⌝ }
     ensures { λ r. ⌜ r ≡ checkResult (now (book .entry)) ⌝ }
@@ -32,9 +35,9 @@ fn check_rows(book: &[u8]) -> u64
     if needed != book.len() / 512 {
         return refusal(4, needed);
     }
-    let n = fault_block(book);
+    let n = first_fault(book);
     if n != 0 {
-        return refusal(5, n);
+        return n;
     }
     (columns(book) as u64) * 16 + (sheets(book) as u64)
 }

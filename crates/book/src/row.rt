@@ -19,8 +19,8 @@ ghost use lib.ListN.{length};
 ghost use Rattle.model.specs.Tests.{FirstIn, Finds};
 ghost use Rattle.heads.specs.Blocks.{word};
 ghost use Rattle.heads.specs.Heads.{sheetsOf, RightHead};
-ghost use Rattle.book.specs.Rows.{blocksOf, firstBlock, blocksNeeded, placeBound, wrongBlock, firstFault, blockOf};
-ghost use Rattle.book.specs.Bounds.{usedRows, wrongIn, overBounds, RowBounds, SmallBounds, SheetThere, BoundedSheet, joined, belowBounds, anyHigh, raisedRow};
+ghost use Rattle.book.specs.Rows.{blocksOf, firstBlock, blocksNeeded, wrongBlock};
+ghost use Rattle.book.specs.Bounds.{fourth, placeBound, usedRows, wrongIn, overBounds, RowBounds, SmallBounds, SheetThere, BoundedSheet, joined, belowBounds, anyHigh, raisedRow};
 
 // The blocks of sheet s.
 pub fn blocks_of(h: &[u8], s: usize) -> usize
@@ -55,7 +55,7 @@ pub fn blocks_needed(h: &[u8]) -> usize
 // ---- the bounds of a sheet's rows
 
 // What the four bytes of a used row have to be below.
-struct Bounds {
+pub struct Bounds {
     w: u8,
     x: u8,
     y: u8,
@@ -75,7 +75,7 @@ fn place_bound(h: &[u8], s: usize, j: usize) -> u8
 }
 
 // The bounds of sheet s, one of the S.
-fn bounds_of(h: &[u8], s: usize) -> Bounds
+pub fn bounds_of(h: &[u8], s: usize) -> Bounds
     requires { ⌜ (512 ≤ length (now h)) × RightHead (now h) × (s < sheetsOf (now h)) ⌝ }
     ensures { λ r. ⌜ RowBounds (now (h .entry)) s (r .w) (r .x) (r .y) (r .z) × SmallBounds (r .w) (r .x) (r .y) (r .z) ⌝ }
 {
@@ -85,6 +85,22 @@ fn bounds_of(h: &[u8], s: usize) -> Bounds
         y: place_bound(h, s, 2),
         z: place_bound(h, s, 3),
     }
+}
+
+// Number j of them.
+pub fn bound(m: Bounds, j: usize) -> u8
+    ensures { λ r. ⌜ r ≡ fourth (m .w) (m .x) (m .y) (m .z) j ⌝ }
+{
+    if j == 0 {
+        return m.w;
+    }
+    if j == 1 {
+        return m.x;
+    }
+    if j == 2 {
+        return m.y;
+    }
+    m.z
 }
 
 // ---- rows over their bounds. Each loop uses a row once and takes all 127, so that the compiler reads four of them at a time.
@@ -178,7 +194,7 @@ fn any_wrong(b: &[u8], m: Bounds, n: usize) -> bool
 }
 
 // How many rows of block q are used where the sheet has n; some are.
-fn used_rows(n: usize, q: usize) -> usize
+pub fn used_rows(n: usize, q: usize) -> usize
     requires { ⌜ 127 * q < n ⌝ }
     ensures { λ r. ⌜ (r ≡ usedRows n q) × (r ≤ 127) ⌝ }
 {
@@ -211,7 +227,7 @@ fn first_in_blocks(book: &[u8], m: Bounds, s: usize, start: usize) -> usize
 }
 
 // The same, with the bounds looked up; a sheet without rows needs none.
-fn first_in_sheet(book: &[u8], s: usize, start: usize) -> usize
+pub fn first_in_sheet(book: &[u8], s: usize, start: usize) -> usize
     requires { ⌜ SheetThere (now book) s × RightHead (now book) × (s < sheetsOf (now book)) × (start ≡ firstBlock (now book) s) ⌝ }
     ensures { λ r. ⌜ FirstIn (wrongBlock (now (book .entry)) s) 0 (blocksOf (now (book .entry)) s) r ⌝ }
 {
@@ -219,24 +235,4 @@ fn first_in_sheet(book: &[u8], s: usize, start: usize) -> usize
         return 0;
     }
     first_in_blocks(book, bounds_of(book, s), s, start)
-}
-
-// The block of the first fault of the rows, or 0. The head is right, and the blocks that it needs are there.
-pub fn fault_block(book: &[u8]) -> usize
-    requires { ⌜ (512 ≤ length (now book)) × RightHead (now book) × (512 * blocksNeeded (now book) ≤ length (now book)) ⌝ }
-    ensures { λ r. ⌜ (r ≡ blockOf (firstFault (now (book .entry)))) × (r ≤ blocksNeeded (now (book .entry))) ⌝ }
-{
-    let n = sheets(book);
-    let mut start: usize = 1;
-    let mut s: usize = 0;
-    while s < n {
-        let blocks = blocks_of(book, s);
-        let q = first_in_sheet(book, s, start);
-        if q < blocks {
-            return start + q;
-        }
-        start = start + blocks;
-        s += 1;
-    }
-    0
 }

@@ -4,7 +4,7 @@ use Rattle.model.specs.Answers.{allBytes, domainBytes}
 use Rattle.model.proofs.Acceptance.{computing as orders-computing}
 use Rattle.book.proofs.Acceptance.{computing}
 use Rattle.runs.specs.Results.{runRefusal, runResult, runSpace, wrongList}
-use Rattle.examples.specs.Acceptance.{CheckFacts, RunFacts}
+use Rattle.examples.specs.Acceptance.{CheckFacts, FaultFacts, RowCheckFacts, RunFacts}
 
 pub checkFacts : CheckFacts
 unfolding computing
@@ -18,7 +18,22 @@ checkFacts = record {
   rows-509 = refl;
   last-zero = refl;
   block-too-many = refl;
+}
+
+pub rowCheckFacts : RowCheckFacts
+unfolding computing
+rowCheckFacts = record {
   large-value = refl;
+  filler-first = refl;
+}
+
+pub faultFacts : FaultFacts
+unfolding computing
+faultFacts = record {
+  value-first = refl;
+  unused-end = refl;
+  second-value = refl;
+  second-unused = refl;
 }
 
 pub runFacts : RunFacts

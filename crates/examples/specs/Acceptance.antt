@@ -6,7 +6,8 @@ use mathlib.Core.List.{List, [], _++_, _∷_}
 use Prim.Native.Nat.{ℕ}
 use lib.ListN.{replicate, set, take}
 use Rattle.heads.specs.Acceptance.{padded}
-use Rattle.book.specs.Acceptance.{both, bothHead, bothRows, harbour, sealed, tiny, tinyHead}
+use Rattle.book.specs.Acceptance.{both, bothHead, bothRows, harbour, longRows, sealed, tiny, tinyHead}
+use Rattle.book.specs.Rows.{fault, firstFault, notZero, tooLarge}
 use Rattle.book.specs.Verdicts.{checkResult, refused}
 use Rattle.runs.specs.Results.{runRefusal, runResult, runSpace, wrongList}
 
@@ -22,7 +23,21 @@ pub record CheckFacts : Type 0 where
   pub rows-509 : checkResult (sealed 0 (set (set bothHead 30 253) 31 1 ∷ [])) ≡ refused 3 30
   pub last-zero : checkResult (sealed 0 (set (padded tinyHead) 507 1 ∷ [])) ≡ refused 3 507
   pub block-too-many : checkResult (sealed 0 (tinyHead ∷ [] ∷ [])) ≡ refused 4 1
-  pub large-value : checkResult (both (set bothRows 4 2)) ≡ refused 5 1
+
+-- checks that end at a row: value 2 in row 1, which begins at byte 516; and the same after a filler of row 0
+pub record RowCheckFacts : Type 0 where
+  -- "Refusal 5 is now only for a value that is too large."
+  pub large-value : checkResult (both (set bothRows 4 2)) ≡ refused 5 129
+  -- "6 for filler, ranked with 5 by file order"
+  pub filler-first : checkResult (both (set (set bothRows 3 1) 4 2)) ≡ refused 6 128
+
+-- "for the first fault in file order": a value and a filler of one row; the last byte of the unused rows; in a second block, a value before an unused
+-- row, and that row alone
+pub record FaultFacts : Type 0 where
+  pub value-first : firstFault (both (set (set bothRows 5 1) 4 2)) ≡ fault 516 tooLarge
+  pub unused-end : firstFault (both (set bothRows 507 1)) ≡ fault 1019 notZero
+  pub second-value : firstFault (longRows 2) ≡ fault 1024 tooLarge
+  pub second-unused : firstFault (longRows 1) ≡ fault 1028 notZero
 
 -- a mark, a narrow of column 0 to no value, an order of no kind
 abbrev pub threeOrders : List ℕ

@@ -17,7 +17,8 @@ use Rattle.model.proofs.Tests.{allBelow-e, allBelow-i, allBelow-same, and-i, an
 use Rattle.book.specs.Decoding.{bookOf, rowOf, sheetOf}
 use Rattle.fields.specs.Bytes.{byteAt}
 use Rattle.heads.specs.Heads.{columnOf, rowsOf, sheetsOf, valuesOf, widthOf}
-use Rattle.book.specs.Rows.{blocksNeeded, blocksOf, placeBound, rowPlace}
+use Rattle.book.specs.Rows.{blocksNeeded, blocksOf, rowPlace}
+use Rattle.book.specs.Bounds.{placeBound}
 use Rattle.book.proofs.Decoding.{RightBook, accepted-right, byte-below, right-formed, rises, row-inside, value-below}
 use Rattle.book.proofs.Rows.{firstBlock-later}
 use Rattle.book.proofs.Verdicts.{right-length}

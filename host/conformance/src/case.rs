@@ -29,22 +29,57 @@ impl Case {
     /// The case of this seed.
     pub fn new(seed: u64) -> Self {
         let random = &mut Random::new(seed);
-        let (times, mend) = match random.below(20) {
+        let (times, mend) = match random.below(22) {
             0 => (0, Mend::Never),
             1..=7 => (1, Mend::AtTheEnd),
             8..=10 => (1, Mend::Never),
             11..=15 => (2, Mend::AtTheEnd),
             16 => (2, Mend::Never),
             17 => (2, Mend::BeforeTheLast),
+            18..=19 => return Self::wrong_rows(random),
             _ => return Self::noise(random),
         };
         let book = any_book(random);
-        let (bytes, regions) = damaged(random, &book, times, mend);
-        let damaged = Some(regions);
+        Self::damaged(random, &book, &Region::ALL, times, mend)
+    }
+
+    /// Damage to several bytes of the rows alone: which of them is the first counts.
+    fn wrong_rows(random: &mut Random) -> Self {
+        let mut book = any_book(random);
+        while book.sheets.iter().all(|sheet| sheet.rows.is_empty()) {
+            book = any_book(random);
+        }
+        let times = random.within(2..=3);
+        Self::damaged(random, &book, &Region::ROWS, times, Mend::AtTheEnd)
+    }
+
+    /// A book after so many times damage to some of these regions.
+    fn damaged(
+        random: &mut Random,
+        book: &Book,
+        aims: &[Region],
+        times: usize,
+        when: Mend,
+    ) -> Self {
+        let whole = write(book);
+        let mut bytes = whole.clone();
+        let mut regions = Vec::new();
+        while regions.len() < times {
+            if when == Mend::BeforeTheLast && regions.len() + 1 == times {
+                mend(&mut bytes);
+            }
+            let region = random.pick(aims);
+            if region.damage(random, book, &whole, &mut bytes) {
+                regions.push(region);
+            }
+        }
+        if when == Mend::AtTheEnd {
+            mend(&mut bytes);
+        }
         Self {
             bytes,
-            damaged,
-            mend,
+            damaged: Some(regions),
+            mend: when,
         }
     }
 
@@ -70,26 +105,6 @@ impl Case {
             mend: Mend::Never,
         }
     }
-}
-
-/// The bytes of a book after so many times damage, and the regions that it hit.
-fn damaged(random: &mut Random, book: &Book, times: usize, when: Mend) -> (Vec<u8>, Vec<Region>) {
-    let whole = write(book);
-    let mut bytes = whole.clone();
-    let mut regions = Vec::new();
-    while regions.len() < times {
-        if when == Mend::BeforeTheLast && regions.len() + 1 == times {
-            mend(&mut bytes);
-        }
-        let region = random.pick(&Region::ALL);
-        if region.damage(random, book, &whole, &mut bytes) {
-            regions.push(region);
-        }
-    }
-    if when == Mend::AtTheEnd {
-        mend(&mut bytes);
-    }
-    (bytes, regions)
 }
 
 /// A head that is right in its first fields and made of small numbers after them.

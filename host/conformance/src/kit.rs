@@ -32,7 +32,7 @@ pub struct Vector {
     pub name: String,
     /// What it shows, without the period at its end.
     pub shows: String,
-    /// The words of document 01 that it goes by.
+    /// The words of document 01 or 02 that it goes by.
     pub paper: String,
     /// The bytes of the book.
     pub book: Vec<u8>,

@@ -1,10 +1,11 @@
-//! The proved library against the independent version of document 01.
+//! The proved library against the independent version of the documents.
 //!
-//! [`write()`] turns a described [`Book`] into bytes with right checks; [`Region`] damages them;
-//! [`Case`] is one seeded input; [`agreed`] compares the two answers. [`Run`] is a seeded book with a
-//! list of orders and a space for the answers; [`agreed_run`] compares the two runs of it. The tests
-//! of this crate are the comparison itself. [`kit`] is the conformance kit for other people's
-//! software, and [`wrong`] is wrong software to try the kit on.
+//! [`write()`] turns a described [`Book`] into bytes with right checks; [`row_bytes`] says what those
+//! of its rows may be; [`Region`] damages them; [`Case`] is one seeded input; [`agreed`] compares the
+//! two answers. [`Run`] is a seeded book with a list of orders and a space for the answers;
+//! [`agreed_run`] compares the two runs of it. The tests of this crate are the comparison itself.
+//! [`kit`] is the conformance kit for other people's software, and [`wrong`] is wrong software to try
+//! the kit on.
 
 #![forbid(unsafe_code)]
 
@@ -16,6 +17,7 @@ mod orders;
 mod program;
 mod random;
 mod region;
+mod rows;
 mod run;
 mod seen;
 mod steps;
@@ -31,6 +33,7 @@ pub use program::{program, Folder};
 pub use random::Random;
 pub use reference::{all_values, space_for, Book, Order, Sheet, BLOCK, ROWS_OF_A_BLOCK};
 pub use region::Region;
+pub use rows::{row_bytes, RowByte};
 pub use run::{Run, Shape};
 pub use seen::Seen;
 pub use steps::{count_steps, look_for_steps};

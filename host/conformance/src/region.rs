@@ -1,6 +1,6 @@
 //! The regions of a book, each with the damage that aims at it.
 
-use crate::{Random, BLOCK, LONGEST, ROWS_OF_A_BLOCK};
+use crate::{row_bytes, Random, RowByte, BLOCK, LONGEST};
 use reference::Book;
 
 /// Bytes that are near some limit of the format.
@@ -57,6 +57,14 @@ impl Region {
         Self::Anywhere,
     ];
 
+    /// Those of the rows, values as often as zeros.
+    pub(crate) const ROWS: [Self; 4] = [
+        Self::RowValue,
+        Self::RowValue,
+        Self::RowFiller,
+        Self::UnusedRow,
+    ];
+
     /// Damages this region of a book that was written as `whole`; whether the book has it.
     pub fn damage(
         self,
@@ -103,29 +111,17 @@ impl Region {
 
     /// A byte of some sheet's rows. In one case of four it is the last such byte of its sheet.
     fn row_byte(self, random: &mut Random, book: &Book) -> Option<usize> {
-        let mut found = Vec::new();
-        let mut first_block = 1;
-        for sheet in &book.sheets {
-            let (rows, width) = (sheet.rows.len(), sheet.columns.len());
-            let blocks = rows.div_ceil(ROWS_OF_A_BLOCK);
-            let (rows, bytes) = match self {
-                Self::RowValue => (0..rows, 0..width),
-                Self::RowFiller => (0..rows, width..4),
-                _ => (rows..blocks * ROWS_OF_A_BLOCK, 0..4),
-            };
-            if !rows.is_empty() && !bytes.is_empty() {
-                found.push((first_block, rows, bytes));
-            }
-            first_block += blocks;
-        }
-        let (block, rows, bytes) = found.get(random.below(found.len()))?;
-        let (row, byte) = if random.once_in(4) {
-            (rows.end - 1, bytes.end - 1)
+        let mut bytes = row_bytes(book);
+        bytes.retain(|byte| byte.region == self);
+        let sheets = bytes.chunk_by(|one, next| one.sheet == next.sheet);
+        let sheets: Vec<&[RowByte]> = sheets.collect();
+        let sheet = sheets.get(random.below(sheets.len()))?;
+        let byte = if random.once_in(4) {
+            sheet.len() - 1
         } else {
-            let row = rows.start + random.below(rows.len());
-            (row, bytes.start + random.below(bytes.len()))
+            random.below(sheet.len())
         };
-        Some((block + row / ROWS_OF_A_BLOCK) * BLOCK + row % ROWS_OF_A_BLOCK * 4 + byte)
+        Some(sheet[byte].at)
     }
 }
 

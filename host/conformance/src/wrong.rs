@@ -1,4 +1,4 @@
-//! Wrong engines: the reference with one edit each, which breaks one sentence of the paper.
+//! Wrong engines: the reference with one edit each, which breaks one sentence of the papers.
 //!
 //! ```text
 //! # what the engine does, in words
@@ -23,7 +23,7 @@ pub struct WrongEngine {
     pub name: String,
     /// What it does, in words.
     pub words: String,
-    /// The sentence of the paper that it breaks.
+    /// The sentence of the papers that it breaks.
     pub paper: String,
     /// Vectors that must notice it.
     pub noticed: Vec<String>,

@@ -1,6 +1,6 @@
-//! The edges of document 01, each with the number that it must give.
+//! The edges of documents 01 and 02, each with the number that it must give.
 
-use conformance::{agreed, changed, harbour, mend, refused, regular, tiny, write, BLOCK};
+use conformance::{agreed, changed, harbour, mend, refused, regular, tiny, write, Book, BLOCK};
 
 /// The file that readers of the documents try first.
 #[test]
@@ -20,12 +20,29 @@ fn smallest_harbour_and_largest() {
     }
 }
 
-/// The numbers that the harbour book gives with some bytes changed: `at=value`, and + between changes
-/// that are made together. Width has V 3, motor 2, board 2; sheet 0 is block 1 with 4 rows, sheet 1
-/// is block 2 with 3.
+/// The number that a book gives with some bytes changed, in words: `at=value`, and + between changes
+/// that are made together.
+fn agreed_with(book: &Book, word: &str) -> u64 {
+    let changes = word.split('+').map(|change| {
+        let (at, value) = change.split_once('=').expect("at=value");
+        (at.parse().unwrap(), value.parse().unwrap())
+    });
+    agreed(&changed(book, &changes.collect::<Vec<_>>()))
+}
+
+/// Each of these words gives the number that stands after them.
+fn each_gives(book: &Book, changes: &[(&str, u64)]) {
+    for (words, number) in changes {
+        for word in words.split(' ') {
+            assert_eq!(agreed_with(book, word), *number, "changed {word}");
+        }
+    }
+}
+
+/// Width has V 3, motor 2, board 2.
 #[test]
-fn changes_of_harbour() {
-    for (words, number) in [
+fn changes_of_the_harbour_head() {
+    let changes = [
         ("8=32 512=2+513=1", 50),
         ("4=4+11=32", 66),
         ("0=102 2=88", refused(3, 0)),
@@ -48,21 +65,70 @@ fn changes_of_harbour() {
         ("87=1", refused(3, 87)),
         ("507=1+88=1", refused(3, 88)),
         ("507=1", refused(3, 507)),
-        (
-            "512=3 513=2 513=255 514=1 527=1 528=1 1019=1 1531=1+1019=1",
-            refused(5, 1),
-        ),
-        ("1025=2 1036=1 1531=128", refused(5, 2)),
-    ] {
-        for word in words.split(' ') {
-            let changes = word.split('+').map(|change| {
-                let (at, value) = change.split_once('=').expect("at=value");
-                (at.parse().unwrap(), value.parse().unwrap())
-            });
-            let bytes = changed(&harbour(), &changes.collect::<Vec<_>>());
-            assert_eq!(agreed(&bytes), number, "changed {word}");
-        }
-    }
+    ];
+    each_gives(&harbour(), &changes);
+}
+
+/// Sheet 0 is block 1 with 4 rows of width and motor, sheet 1 is block 2 with 3 rows of motor and
+/// board. So rows start at bytes 512, 516, 520 and 524, and at 1,024, 1,028 and 1,032.
+#[test]
+fn changes_of_the_harbour_rows() {
+    let changes = [
+        ("512=2 513=1 524=2 525=1 1024=1 1033=1", 50),
+        ("512=3 512=255 513=2 513=255", refused(5, 128)),
+        ("514=1 515=1 515=255", refused(6, 128)),
+        ("524=3 525=2", refused(5, 131)),
+        ("526=1 527=1", refused(6, 131)),
+        ("528=1 528=3 529=2 531=1", refused(6, 132)),
+        ("1016=1 1019=1 1019=255", refused(6, 254)),
+        ("1024=2 1025=2 1025=255", refused(5, 256)),
+        ("1026=1 1027=128", refused(6, 256)),
+        ("1032=2 1033=2", refused(5, 258)),
+        ("1034=1 1035=1", refused(6, 258)),
+        ("1036=1 1037=255 1039=1", refused(6, 259)),
+        ("1531=1 1531=128", refused(6, 382)),
+        // With 3 rows said, the fourth is an unused one; with 5, the one after it is used.
+        ("30=3", refused(6, 131)),
+        ("30=5+528=2+529=1", 50),
+        ("30=5+528=3", refused(5, 132)),
+        ("30=5+530=1", refused(6, 132)),
+    ];
+    each_gives(&harbour(), &changes);
+}
+
+/// Two faults of rows in one book: the first in the file counts, whichever it is. In one row the
+/// values come first; sheet 1 begins in another block.
+#[test]
+fn two_faults_of_harbour_rows() {
+    let changes = [
+        ("512=3+513=2 512=3+515=1 513=2+514=1", refused(5, 128)),
+        ("514=1+515=1", refused(6, 128)),
+        ("517=2+520=3 517=2+522=1 517=255+523=1", refused(5, 129)),
+        ("518=1+520=3 518=1+521=2 519=1+522=1", refused(6, 129)),
+        ("525=2+528=1 525=2+529=2", refused(5, 131)),
+        ("527=1+528=1 527=1+528=3", refused(6, 131)),
+        ("524=3+1025=2 524=3+1026=1 524=3+1531=1", refused(5, 131)),
+        ("526=1+1024=2 526=1+1027=1 526=1+1036=1", refused(6, 131)),
+        ("1019=1+1024=2 1019=1+1026=1", refused(6, 254)),
+        ("1019=1+1531=1", refused(6, 254)),
+        ("516=3+522=1+1024=2+1026=1", refused(5, 129)),
+        ("518=1+520=3+1024=2+1026=1", refused(6, 129)),
+    ];
+    each_gives(&harbour(), &changes);
+}
+
+/// The same in two blocks of one sheet: row 126 is the last of block 1, row 127 the first of block 2.
+#[test]
+fn two_faults_on_both_sides_of_a_check() {
+    let changes = [
+        ("1016=31+1024=31", 17),
+        ("1016=32+1024=32 1016=32+1025=1", refused(5, 254)),
+        ("1017=1+1024=32 1019=1+1024=255", refused(6, 254)),
+        ("1017=1+1027=1 1019=255+1028=1", refused(6, 254)),
+        ("1024=32+1025=1 1024=32+1028=32", refused(5, 256)),
+        ("1025=1+1028=32", refused(6, 256)),
+    ];
+    each_gives(&regular(1, 32, 1, 128, 1), &changes);
 }
 
 #[test]
@@ -86,9 +152,9 @@ fn the_widest_head() {
 
 #[test]
 fn the_lowest_refusal_is_given() {
-    let mut bytes = changed(&harbour(), &[(600, 1)]);
+    let mut bytes = changed(&harbour(), &[(512, 3), (600, 1)]);
     bytes.truncate(2 * BLOCK);
-    assert_eq!(agreed(&bytes), refused(4, 3), "4 before 5");
+    assert_eq!(agreed(&bytes), refused(4, 3), "4 before 5 and 6");
     bytes[88] = 1;
     mend(&mut bytes);
     assert_eq!(agreed(&bytes), refused(3, 88), "3 before 4");
@@ -120,7 +186,7 @@ fn sums_past_32_bits() {
         let mut bytes = write(&regular(16, 32, 8, 508, 4));
         bytes[BLOCK..(1 + blocks) * BLOCK].fill(0xFF);
         mend(&mut bytes);
-        assert_eq!(agreed(&bytes), refused(5, 1));
+        assert_eq!(agreed(&bytes), refused(5, 128));
         let mut tail = write(&tiny());
         tail.resize((1 + blocks) * BLOCK, 0xFF);
         mend(&mut tail);

@@ -1,6 +1,6 @@
 //! Lengths: of the list, of the space for the answers, and what is refused first.
 
-use conformance::{agreed_run, back, harbour, narrow, refused, space_for, tiny, write};
+use conformance::{agreed_run, back, changed, harbour, narrow, refused, space_for, tiny, write};
 use conformance::{BOARD, FINISH, MARK};
 
 /// The number that both versions give with so much space; a refused run leaves it as it was.
@@ -86,12 +86,15 @@ fn what_is_refused_first() {
     let right = write(&harbour());
     let mut wrong = right.clone();
     wrong[600] ^= 1;
+    let [value, filler] = [(513, 2), (514, 1)].map(|change| changed(&harbour(), &[change]));
     let [no_orders, ragged, too_many] = [vec![], vec![0; 9], vec![0; 2_056]];
     for space in [0, 71, 72, 144, 20_000] {
         for orders in [&no_orders, &ragged, &too_many] {
             assert_eq!(number(&wrong, orders, space), refused(2, 1));
             assert_eq!(number(&[], orders, space), refused(1, 0));
             assert_eq!(number(&right[..1_024], orders, space), refused(4, 3));
+            assert_eq!(number(&value, orders, space), refused(5, 128));
+            assert_eq!(number(&filler, orders, space), refused(6, 128));
         }
         assert_eq!(number(&right, &ragged, space), refused(10, 0));
         assert_eq!(number(&right, &too_many, space), refused(10, 0));

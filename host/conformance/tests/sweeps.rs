@@ -1,19 +1,39 @@
 //! Whole ranges of inputs, none left out.
 
 use conformance::{
-    agreed, any_book, harbour, mend, mend_block, refused, regular, tiny, write, Book, Random,
-    Sheet, BLOCK, LONGEST, ROWS_OF_A_BLOCK,
+    agreed, any_book, harbour, mend, mend_block, refused, regular, row_bytes, show, tiny, write,
+    Book, Random, Region, RowByte, Sheet, Tally, BLOCK, LONGEST, ROWS_OF_A_BLOCK,
 };
+use reference::book_refusals;
+use std::collections::BTreeSet;
 
-/// A book of 33 blocks whose sheets have the widths 1, 2, 3 and 4, and columns of different V.
-fn longest() -> Book {
+/// A book of 33 blocks whose sheets have the widths 1, 2, 3 and 4 in turn, this one first, and columns of
+/// different V.
+fn longest_from(width: u8) -> Book {
     let counts: Vec<u8> = (0..16).map(|column| 32 - 2 * column).collect();
-    let sheets = (0..8).map(|s| Sheet {
-        columns: (0..=s % 4).map(|i| s + 2 * i).collect(),
-        rows: vec![vec![0; usize::from(s % 4) + 1]; 508],
+    let sheets = (0..8).map(|s| {
+        let width = (s + width - 1) % 4 + 1;
+        Sheet {
+            columns: (0..width).map(|i| s + 2 * i).collect(),
+            rows: vec![vec![0; width.into()]; 508],
+        }
     });
     let sheets = sheets.collect();
     Book { counts, sheets }
+}
+
+fn longest() -> Book {
+    longest_from(1)
+}
+
+/// The longest book with sheets of so many rows.
+fn shorter(rows: &[usize]) -> Book {
+    let mut book = longest();
+    book.sheets.truncate(rows.len());
+    for (sheet, &n) in book.sheets.iter_mut().zip(rows) {
+        sheet.rows.truncate(n);
+    }
+    book
 }
 
 /// A book without values in its rows that needs so many blocks.
@@ -89,12 +109,20 @@ fn every_pair_of_wrong_checks() {
 #[test]
 fn every_byte_of_harbour_as_every_other() {
     let whole = write(&harbour());
+    let rows = row_bytes(&harbour());
     let mut bytes = whole.clone();
     for at in 0..whole.len() {
+        let of_a_row = rows.iter().find(|byte| byte.at == at);
         for change in 1..=255 {
-            bytes[at] = whole[at] ^ change;
+            let value = whole[at] ^ change;
+            bytes[at] = value;
             assert_eq!(agreed(&bytes), refused(2, at / BLOCK), "at {at}");
-            agreed_with(&mut bytes, at, whole[at] ^ change);
+            let number = agreed_with(&mut bytes, at, value);
+            if let Some(byte) = of_a_row {
+                let right = value < byte.limit;
+                let expected = if right { 50 } else { byte.refused() };
+                assert_eq!(number, expected, "{value} in {byte:?}");
+            }
             bytes.copy_from_slice(&whole);
         }
     }
@@ -131,46 +159,83 @@ fn every_number_of_blocks_for_every_number_needed() {
     }
 }
 
+/// Of two books, so that each row of each block has a value in one of them, and a zero after its
+/// values in one: refusals 5 and 6 come with every place that they can have, and no other.
 #[test]
 fn every_row_byte_at_its_limit() {
-    let book = longest();
-    let mut bytes = write(&book);
-    for at in (BLOCK..bytes.len()).filter(|at| at % BLOCK < 508) {
-        let block = at / BLOCK;
-        let columns = &book.sheets[(block - 1) / 4].columns;
-        let limit = match columns.get(at % 4) {
-            Some(&column) => book.counts[usize::from(column)],
-            None => 1,
-        };
-        assert_eq!(agreed_with(&mut bytes, at, limit - 1), 264, "at {at}");
-        assert_eq!(
-            agreed_with(&mut bytes, at, limit),
-            refused(5, block),
-            "at {at}"
-        );
+    let mut given = BTreeSet::new();
+    for book in [longest_from(1), longest_from(2)] {
+        let mut bytes = write(&book);
+        let rows = row_bytes(&book);
+        assert_eq!(rows.len(), 32 * 508);
+        for byte in rows {
+            let below = agreed_with(&mut bytes, byte.at, byte.limit - 1);
+            assert_eq!(below, 264, "{byte:?}");
+            let number = agreed_with(&mut bytes, byte.at, byte.limit);
+            assert_eq!(number, byte.refused(), "{byte:?}");
+            given.insert(number);
+        }
     }
+    let refusals = book_refusals().into_iter();
+    let of_rows = refusals.filter(|(refusal, _)| [5, 6].contains(refusal));
+    let numbers = of_rows.flat_map(|(refusal, places)| {
+        let places = places.into_iter();
+        places.map(move |place| refused(refusal, place))
+    });
+    assert!(given.into_iter().eq(numbers), "every place of 5 and of 6");
 }
 
 #[test]
 fn every_byte_of_unused_rows() {
-    let mut book = longest();
-    let counts = [1, 126, 128, 200, 254, 255, 381, 383];
-    for (sheet, n) in book.sheets.iter_mut().zip(counts) {
-        sheet.rows.truncate(n);
-    }
+    let book = shorter(&[1, 126, 128, 200, 254, 255, 381, 383]);
     let mut bytes = write(&book);
-    let mut block = 1;
-    for n in counts {
-        let blocks = n.div_ceil(ROWS_OF_A_BLOCK);
-        for row in n..blocks * ROWS_OF_A_BLOCK {
-            let wrong = block + row / ROWS_OF_A_BLOCK;
-            let at = wrong * BLOCK + row % ROWS_OF_A_BLOCK * 4;
-            for byte in at..at + 4 {
-                assert_eq!(agreed_with(&mut bytes, byte, 1), refused(5, wrong));
-            }
+    let mut unused = row_bytes(&book);
+    unused.retain(|byte| byte.region == Region::UnusedRow);
+    assert_eq!(unused.len(), 4 * (126 + 1 + 126 + 54 + 126 + 125));
+    for byte in unused {
+        for value in [1, 32, 255] {
+            let number = agreed_with(&mut bytes, byte.at, value);
+            assert_eq!(number, byte.refused(), "{value} in {byte:?}");
         }
-        block += blocks;
     }
+}
+
+/// How two bytes of rows lie to each other.
+fn apart(first: &RowByte, second: &RowByte) -> &'static str {
+    match second.at / 4 - first.at / 4 {
+        0 => "in one row",
+        1 => "in neighbouring rows",
+        _ if first.sheet != second.sheet => "in two sheets",
+        _ if first.at / BLOCK != second.at / BLOCK => "in two blocks",
+        _ => "in one block",
+    }
+}
+
+/// Two faults in one book, each pair of all bytes of the first rows and the last of every block: the
+/// first in the file counts, whichever it is.
+#[test]
+fn every_pair_of_row_faults() {
+    // In the last block of a sheet the second row is unused, or the last one, or none.
+    let book = shorter(&[128, 127, 126, 255, 1]);
+    let mut chosen = row_bytes(&book);
+    chosen.retain(|byte| [0, 1, 125, 126].contains(&(byte.at % BLOCK / 4)));
+    let mut tally = Tally::default();
+    for (i, first) in chosen.iter().enumerate() {
+        let mut bytes = write(&book);
+        bytes[first.at] = first.limit;
+        mend_block(&mut bytes, first.at / BLOCK);
+        for second in &chosen[i + 1..] {
+            let number = agreed_with(&mut bytes, second.at, 255);
+            assert_eq!(number, first.refused(), "{first:?}, {second:?}");
+            let [one, other] = [first, second].map(RowByte::refusal);
+            tally.add(&format!("{one}, then {other} {}", apart(first, second)), 1);
+        }
+    }
+    show(&format!(
+        "pairs of row faults, by their refusals\n\n{tally}"
+    ));
+    // Either before either, in five ways; but in one row no value comes after a zero.
+    assert_eq!(tally.kinds(), 4 * 5 - 1);
 }
 
 /// In a head alone, and with the rows that it names where there may be so many.

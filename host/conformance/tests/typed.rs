@@ -1,7 +1,12 @@
-//! The typed run of `fitting` says what the bytes say.
+//! The typed run of `fitting` says what the bytes say, and its refusals name what is wrong in them.
 
-use conformance::{space_for, Run, Seen, Tally};
-use fitting::{Answer, Answers, Book, OrderList, Outcome, Refusal, Space, Status, Values};
+use conformance::{
+    any_book, harbour, mend, mend_block, refused, regular, row_bytes, space_for, write,
+};
+use conformance::{Random, Region, Run, Seen, Tally};
+use fitting::{
+    Answer, Answers, Book, Field, OrderList, Outcome, Refusal, RowPlace, Space, Status, Values,
+};
 use std::panic;
 
 /// The answer once more, from what the view gives.
@@ -68,7 +73,7 @@ fn tried(run: &Run) -> &'static str {
     let Ok(list) = OrderList::from_bytes(&run.orders) else {
         // The library refuses such a list too, if it doesn't refuse the book before it.
         let refusal = book.err().unwrap_or(Refusal::Orders);
-        assert_eq!(Refusal::from_number(number), Some(refusal));
+        assert_eq!(Refusal::read(number, &run.book), Some(refusal));
         return "refused by their length";
     };
     assert_eq!(list.as_bytes(), run.orders);
@@ -78,7 +83,7 @@ fn tried(run: &Run) -> &'static str {
     match typed {
         Ok(answers) => assert_eq!(answers.accepted() as u64, number),
         Err(refusal) => {
-            assert_eq!(Refusal::from_number(number), Some(refusal));
+            assert_eq!(Refusal::read(number, &run.book), Some(refusal));
             assert!(!matches!(refusal, Refusal::Other { .. }));
         }
     }
@@ -108,4 +113,121 @@ fn seeded_runs_read_alike() {
     println!("{tally}");
     assert_eq!(tally.kinds(), 3);
     tally.assert_each_above(100);
+}
+
+/// The refusal of a book whose rows alone were damaged, against their first byte that is at fault by the book
+/// as it was described. What that byte is, if there is one.
+fn named_row(book: &conformance::Book, bytes: &[u8]) -> Option<Region> {
+    let rows = row_bytes(book);
+    let Some(first) = rows.iter().position(|byte| bytes[byte.at] >= byte.limit) else {
+        assert!(fitting::check(bytes).is_ok());
+        return None;
+    };
+    let byte = &rows[first];
+    let before = rows[..first].iter().filter(|it| it.sheet == byte.sheet);
+    let (place, sheet) = ((byte.at / 4) as u16, byte.sheet as u8);
+    let row = (before.count() / 4) as u16;
+    let refusal = if byte.region == Region::RowValue {
+        let column = book.sheets[byte.sheet].columns[byte.at % 4];
+        Refusal::Value {
+            place,
+            sheet,
+            row,
+            column,
+            value: bytes[byte.at],
+            count: book.counts[usize::from(column)],
+        }
+    } else {
+        let used = byte.region == Region::RowFiller;
+        Refusal::Filler {
+            place,
+            sheet,
+            row,
+            used,
+        }
+    };
+    assert_eq!(fitting::check(bytes), Err(refusal));
+    let found = RowPlace::of(bytes, place).and_then(|place| place.byte);
+    assert_eq!(found, Some((byte.at % 4) as u8));
+    Some(byte.region)
+}
+
+#[test]
+fn the_first_wrong_row_is_named() {
+    let regions = [Region::RowValue, Region::RowFiller, Region::UnusedRow];
+    let mut tally = Tally::default();
+    for seed in 0..10_000 {
+        let random = &mut Random::new(seed);
+        let book = any_book(random);
+        let whole = write(&book);
+        let mut bytes = whole.clone();
+        for _ in 0..random.within(1..=3) {
+            let region = random.pick(&regions);
+            region.damage(random, &book, &whole, &mut bytes);
+        }
+        mend(&mut bytes);
+        let first = panic::catch_unwind(|| named_row(&book, &bytes));
+        let first = first.unwrap_or_else(|_| panic!("seed {seed}"));
+        tally.add(&format!("{first:?}"), 1);
+    }
+    println!("{tally}");
+    assert_eq!(tally.kinds(), 4);
+    tally.assert_each_above(1_000);
+}
+
+/// Words that name the field at this place of a head, and how many bytes it has.
+fn field_at(head: &[u8], place: usize) -> (String, usize) {
+    let sheet = place.wrapping_sub(24) / 8;
+    match place {
+        0 => ("the letters".into(), 4),
+        4 => ("the number of columns C".into(), 1),
+        5 => ("the number of sheets S".into(), 1),
+        8..=23 => (format!("column {}'s V", place - 8), 1),
+        24..=87 if sheet < head[5].into() && place % 8 == 6 => {
+            (format!("sheet {sheet}'s row count"), 2)
+        }
+        24..=87 => (format!("sheet {sheet}'s "), 1),
+        _ => (format!("byte {place}"), 1),
+    }
+}
+
+/// A wrong field is named by its place, with what stands there.
+fn named_field(bytes: &[u8], offset: usize, field: Field) {
+    let (name, length) = field_at(bytes, offset);
+    let mut found = [0; 4];
+    found[..length].copy_from_slice(&bytes[offset..][..length]);
+    let found = u32::from_le_bytes(found);
+    assert_eq!(field.found, found, "{field}");
+    let sentence = field.to_string();
+    assert!(sentence.contains(&name), "{field}");
+    let shown = format!(", {found}, is not ");
+    assert!(offset == 0 || sentence.contains(&shown), "{field}");
+}
+
+/// Every byte of a head as every number. Where that makes other rows wrong, or their number, it is named too.
+#[test]
+fn every_wrong_field_is_named() {
+    let mut tally = Tally::default();
+    for book in [harbour(), regular(16, 32, 8, 130, 4)] {
+        let whole = write(&book);
+        for (at, value) in (0..508).flat_map(|at| (0..=255).map(move |value| (at, value))) {
+            let mut bytes = whole.clone();
+            bytes[at] = value;
+            mend_block(&mut bytes, 0);
+            let Err(refusal) = fitting::check(&bytes) else {
+                continue;
+            };
+            let number = refused(refusal.number(), refusal.place().into());
+            assert_eq!(number, fitting::check_number(&bytes));
+            match refusal {
+                Refusal::Head { offset, field } => named_field(&bytes, offset.into(), field),
+                Refusal::Other { .. } => panic!("{refusal}"),
+                _ => {}
+            }
+            tally.add(&format!("refusal {}", refusal.number()), 1);
+        }
+    }
+    println!("{tally}");
+    assert_eq!(tally.kinds(), 4);
+    tally.assert_each_above(10);
 }

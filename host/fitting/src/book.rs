@@ -1,17 +1,12 @@
 //! An accepted book, read as it lies in its bytes.
 //!
-//! The library has accepted the bytes, so every read below finds what it looks for. A byte that
-//! isn't there reads as zero all the same, so that nothing here can panic.
+//! The library has accepted the bytes, so every read below finds what it looks for. A head that isn't
+//! there reads as zeros all the same, so that nothing here can panic.
 
+use crate::layout::{self, Head};
 use crate::{calls, Answers, OrderList, Space, Values};
 use core::fmt;
 use core::hash::{Hash, Hasher};
-
-const BLOCK: usize = 512;
-const ROWS_OF_A_BLOCK: usize = 127;
-const COUNTS: usize = 8;
-const ENTRIES: usize = 24;
-const ENTRY: usize = 8;
 
 /// An accepted book: a view that borrows its bytes.
 ///
@@ -52,14 +47,14 @@ impl<'a> Book<'a> {
 
     /// The number of columns, 1 to 16.
     pub fn columns(&self) -> u8 {
-        self.byte(4)
+        self.head().columns()
     }
 
     /// The values of a column, 0 to V − 1; V is 1 to 32. There is none in a column that the book
     /// doesn't have.
     pub fn values(&self, column: u8) -> Values {
         if column < self.columns() {
-            Values::below(self.byte(COUNTS + usize::from(column)))
+            Values::below(self.head().count(column))
         } else {
             Values::NONE
         }
@@ -81,8 +76,12 @@ impl<'a> Book<'a> {
     pub fn sheets(
         &self,
     ) -> impl ExactSizeIterator<Item = Sheet<'a>> + DoubleEndedIterator + Clone + 'a {
-        let book = *self;
-        (0..book.byte(5).into()).map(move |number| book.numbered(number))
+        let bytes = self.bytes;
+        self.head().sheets().map(|entry| Sheet {
+            columns: entry.columns(),
+            blocks: entry.part_of(bytes),
+            rows: entry.rows().into(),
+        })
     }
 
     /// The sheet of this number, counted from 0, if the book has it.
@@ -90,25 +89,8 @@ impl<'a> Book<'a> {
         self.sheets().nth(number)
     }
 
-    fn numbered(&self, number: usize) -> Sheet<'a> {
-        let entry = ENTRIES + ENTRY * number;
-        let before: usize = (0..number)
-            .map(|n| self.row_count(n).div_ceil(ROWS_OF_A_BLOCK))
-            .sum();
-        Sheet {
-            columns: part(self.bytes, entry + 1, self.byte(entry).into()),
-            blocks: self.bytes.get(BLOCK * (1 + before)..).unwrap_or(&[]),
-            rows: self.row_count(number),
-        }
-    }
-
-    fn row_count(&self, number: usize) -> usize {
-        let entry = ENTRIES + ENTRY * number;
-        u16::from_le_bytes([self.byte(entry + 6), self.byte(entry + 7)]).into()
-    }
-
-    fn byte(&self, offset: usize) -> u8 {
-        self.bytes.get(offset).copied().unwrap_or(0)
+    fn head(&self) -> Head<'a> {
+        Head::of(self.bytes).unwrap_or(Head::BLANK)
     }
 }
 
@@ -152,9 +134,11 @@ impl<'a> Sheet<'a> {
 
     /// The row of this number, counted from 0, if the sheet has it.
     pub fn row(&self, number: usize) -> Option<&'a [u8]> {
-        let (block, place) = (number / ROWS_OF_A_BLOCK, number % ROWS_OF_A_BLOCK);
-        (number < self.rows)
-            .then(|| part(self.blocks, BLOCK * block + 4 * place, self.columns.len()))
+        if number < self.rows {
+            layout::values(self.blocks, number, self.columns.len())
+        } else {
+            None
+        }
     }
 }
 
@@ -180,9 +164,4 @@ impl fmt::Debug for Sheet<'_> {
             .field("rows", &self.rows)
             .finish()
     }
-}
-
-/// The part of these bytes that starts here.
-fn part(bytes: &[u8], start: usize, length: usize) -> &[u8] {
-    bytes.get(start..start + length).unwrap_or(&[])
 }

@@ -2,7 +2,8 @@
 
 use crate::{check_number, run_number, Answers, Book, OrderList, Refusal};
 
-/// Checks a book, and gives a view of it if it is accepted.
+/// Checks a book, and gives a view of it if it is accepted. If it is not, the refusal says what is wrong,
+/// and where.
 ///
 /// ```
 /// use fitting::Refusal;
@@ -23,7 +24,7 @@ use crate::{check_number, run_number, Answers, Book, OrderList, Refusal};
 /// # Ok::<(), Refusal>(())
 /// ```
 pub fn check(book: &[u8]) -> Result<Book<'_>, Refusal> {
-    let refusal = Refusal::from_number(check_number(book));
+    let refusal = Refusal::read(check_number(book), book);
     refusal.map_or(Ok(Book::accepted(book)), Err)
 }
 
@@ -51,7 +52,7 @@ pub fn check(book: &[u8]) -> Result<Book<'_>, Refusal> {
 /// ```
 pub fn run<'a>(book: &[u8], list: &OrderList, space: &'a mut [u8]) -> Result<Answers<'a>, Refusal> {
     let number = run_number(book, list.as_bytes(), space);
-    match Refusal::from_number(number) {
+    match Refusal::read(number, book) {
         None => {
             let columns = Book::accepted(book).columns();
             let accepted = number as usize;

@@ -1,11 +1,12 @@
 //! The examples, run as the documents say. The one in C is compiled first, with the header; the one that
 //! serves clicks is started and asked.
 
+use conformance::{changed, harbour};
 use std::io::{BufRead, BufReader, Read, Write};
 use std::net::{Shutdown, TcpStream};
 use std::path::{Path, PathBuf};
 use std::process::{Child, Command, Stdio};
-use std::{env, thread};
+use std::{env, fs, thread};
 
 /// The example of this name, which cargo builds beside the tests.
 fn example(name: &str) -> PathBuf {
@@ -24,9 +25,14 @@ fn command(program: &Path, words: &str) -> Command {
 
 /// What the program says to these words, and its exit status.
 fn says(program: &Path, words: &str, said: &str, status: i32) {
-    let output = command(program, words).output().expect("it runs");
-    assert_eq!(String::from_utf8_lossy(&output.stdout), said, "{words}");
-    assert_eq!(output.status.code(), Some(status), "{words}");
+    tells(&mut command(program, words), said, status);
+}
+
+fn tells(command: &mut Command, said: &str, status: i32) {
+    let output = command.output().expect("it runs");
+    let told = String::from_utf8_lossy(&output.stdout);
+    assert_eq!(told, said, "{command:?}");
+    assert_eq!(output.status.code(), Some(status), "{command:?}");
 }
 
 const NOWHERE: &str = "nowhere.bin: No such file or directory (os error 2)\n";
@@ -41,6 +47,24 @@ fn checks() {
     says(&check, "harbour.bin ../README.md", &both, 1);
     says(&check, "nowhere.bin", NOWHERE, 1);
     says(&check, "", "", 2);
+}
+
+/// The harbour book with a byte changed: in a sheet's entry, in a value, after the values, in an unused row.
+#[test]
+fn checks_of_damaged_books() {
+    let folder = env!("CARGO_TARGET_TMPDIR");
+    let changes = [(25, 1), (525, 7), (1026, 1), (1036, 1)];
+    for (number, change) in changes.into_iter().enumerate() {
+        let file = Path::new(folder).join(format!("{number}.bin"));
+        fs::write(file, changed(&harbour(), &[change])).unwrap();
+    }
+    let lines = "\
+        0.bin: 196634, refusal 3: sheet 0's second column number, 1, is not above 1\n\
+        1.bin: 327811, refusal 5: sheet 0, row 3, column 1: value 7 is not below its V, 2\n\
+        2.bin: 393472, refusal 6: sheet 1, row 0: a byte after its values is not zero\n\
+        3.bin: 393475, refusal 6: sheet 1, row 3, which is unused: a byte is not zero\n";
+    let mut check = command(&example("check"), "0.bin 1.bin 2.bin 3.bin");
+    tells(check.current_dir(folder), lines, 1);
 }
 
 #[test]

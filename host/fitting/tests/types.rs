@@ -24,6 +24,9 @@ fn every_type_goes_anywhere() {
     small::<Answer>();
     small::<Status>();
     small::<Outcome>();
+    small::<Field>();
+    small::<FieldName>();
+    small::<RowPlace>();
     error::<Refusal>();
     error::<OrderRefusal>();
     error::<Full>();

@@ -1,11 +1,12 @@
 //! The first inputs of a fuzz run: the conformance kit, small sweeps, and seeded books and lists.
 
 use crate::{described, described_by_seed, raw, LONGEST_INPUT, MENDED};
-use conformance::{harbour, kit, narrow, regular, tiny, write, Book, Case, Run, Sheet, FINISH};
+use conformance::{changed, harbour, kit, narrow, regular, tiny, write};
+use conformance::{Book, Case, Run, Sheet, FINISH};
 use std::ops::Range;
 
-/// The first inputs, always the same: the vectors of the conformance kit, sweeps over single bytes and over
-/// row counts, and so many seeded runs and seeded books, damaged ones among them.
+/// The first inputs, always the same: the vectors of the conformance kit, sweeps over single bytes, over pairs
+/// of row bytes and over row counts, and so many seeded runs and seeded books, damaged ones among them.
 pub fn seeds(count: u64) -> Vec<Vec<u8>> {
     let mut seeds = Vec::new();
     for vector in kit::vectors() {
@@ -15,6 +16,7 @@ pub fn seeds(count: u64) -> Vec<Vec<u8>> {
     seeds.extend(wrong_bytes(&tiny(), 4..96, 255));
     seeds.extend(wrong_bytes(&harbour(), 4..96, 255));
     seeds.extend(wrong_bytes(&regular(4, 5, 1, 3, 4), 512..528, 5));
+    seeds.extend(wrong_pairs(&regular(4, 5, 1, 3, 2), 512..528, 5));
     seeds.extend((0..=508).filter(|rows| rows % 64 < 2).map(row_count));
     seeds.extend((1..=508).filter(|rows| rows % 64 < 2).map(last_row));
     for seed in 0..count {
@@ -40,6 +42,18 @@ fn wrong_bytes(book: &Book, places: Range<usize>, value: u8) -> impl Iterator<It
         bytes[at] = value;
         raw(MENDED, &bytes, &[])
     })
+}
+
+/// The same with two at a time: the first of two faults counts.
+fn wrong_pairs(book: &Book, places: Range<usize>, value: u8) -> Vec<Vec<u8>> {
+    let mut pairs = Vec::new();
+    for first in places.clone() {
+        for second in first + 1..places.end {
+            let bytes = changed(book, &[(first, value), (second, value)]);
+            pairs.push(raw(MENDED, &bytes, &[]));
+        }
+    }
+    pairs
 }
 
 /// A sheet of so many rows and one of 30 more: live rows are kept in words of 64.

@@ -1,6 +1,6 @@
 //! An accepted book as plain data.
 
-use crate::{blocks_of, head, refusal, BLOCK, ROWS_OF_A_BLOCK};
+use crate::{blocks_of, head, refusal, rows};
 
 /// The data of a book, with nothing of its layout.
 #[derive(Clone, Debug, PartialEq, Eq)]
@@ -44,8 +44,7 @@ fn sheet(book: &[u8], s: usize, entry: &head::Entry, first_block: usize) -> Shee
     let numbers = 24 + 8 * s + 1;
     let mut rows = Vec::new();
     for r in 0..entry.rows {
-        let block = first_block + r / ROWS_OF_A_BLOCK;
-        let start = block * BLOCK + 4 * (r % ROWS_OF_A_BLOCK);
+        let start = rows::start(first_block, r);
         rows.push(book[start..start + entry.width].to_vec());
     }
     Sheet {

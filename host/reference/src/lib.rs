@@ -1,8 +1,10 @@
 //! An independent version of the two calls, the check of a book and the run of a list, written from
-//! document 01 and the readings of it in `docs/DECISIONS.md`, and from nothing else.
+//! document 01, from document 02's requests that have landed (W1) and the readings of both in
+//! `docs/DECISIONS.md`, and from nothing else.
 //!
-//! It is meant to be read beside that document: each piece stands under the sentence that it
-//! states. Where slow is plainer it is slow, and it shares nothing with any other crate.
+//! It is meant to be read beside these documents: each piece stands under the sentence that it
+//! states, and a sentence that a request replaces isn't there any more. Where slow is plainer it is
+//! slow, and it shares nothing with any other crate.
 
 #![forbid(unsafe_code)]
 
@@ -12,6 +14,7 @@ mod closure;
 mod finish;
 mod head;
 mod orders;
+mod rows;
 mod run;
 mod session;
 #[cfg(test)]
@@ -21,6 +24,7 @@ pub use book::{decode, Book, Sheet};
 pub use closure::closure;
 pub use finish::search;
 pub use orders::{all_values, Kind, Order};
+pub use rows::{row_faults, RowFault};
 pub use run::{printed, run, run_refusals, space_for};
 pub use session::{session, Outcome, Shown};
 
@@ -37,22 +41,21 @@ type Cause = (u64, fn(&[u8]) -> Option<usize>, &'static [Places]);
 
 type Places = RangeInclusive<usize>;
 
-/// Every cause, from the lowest number on; each may go by it that those before don't apply.
+/// Every cause but those of the rows, from the lowest number on; each may go by it that those before
+/// don't apply.
 const CAUSES: &[Cause] = &[
     (1, wrong_length, &[0..=0]),
     (2, wrong_check, &[0..=32]),
     (3, head::wrong_field, &[0..=0, 4..=507]),
     (4, wrong_block_count, &[1..=33]),
-    (5, wrong_row, &[1..=32]),
 ];
 
 /// The refusals of a book, each with every place that it can have.
 pub fn book_refusals() -> Vec<(u64, Vec<usize>)> {
     let every = |places: &[Places]| places.iter().cloned().flatten().collect();
     let causes = CAUSES.iter();
-    causes
-        .map(|&(refusal, _, places)| (refusal, every(places)))
-        .collect()
+    let before_rows = causes.map(|&(refusal, _, places)| (refusal, every(places)));
+    before_rows.chain(rows::refusals()).collect()
 }
 
 /// "Each call returns one 64-bit number: refusal × 65,536 + place, or the accepted figure."
@@ -64,10 +67,12 @@ pub fn check(book: &[u8]) -> u64 {
     }
 }
 
-/// "Where several apply, the lowest of these numbers is given." The number and the place.
+/// "Where several apply, the lowest of these numbers is given." The number and the place. Of the two
+/// for rows it is the one that comes first in the file.
 fn refusal(book: &[u8]) -> Option<(u64, usize)> {
     let mut causes = CAUSES.iter();
-    causes.find_map(|(number, place, _)| Some((*number, place(book)?)))
+    let before_rows = causes.find_map(|(number, place, _)| Some((*number, place(book)?)));
+    before_rows.or_else(|| rows::refusal(book))
 }
 
 /// "1 if the length isn't a multiple of 512 from 512 to 16,896, place 0"
@@ -109,35 +114,4 @@ fn wrong_block_count(book: &[u8]) -> Option<usize> {
 /// "Each sheet in turn then has as many blocks as n / 127 rounded up."
 fn blocks_of(entry: &head::Entry) -> usize {
     entry.rows.div_ceil(ROWS_OF_A_BLOCK)
-}
-
-/// "5 if a row value is too large or a byte that must be zero isn't, place the first such block"
-fn wrong_row(book: &[u8]) -> Option<usize> {
-    let mut block = 1;
-    for s in 0..head::sheets(book) {
-        let entry = head::entry(book, s);
-        for sheet_block in 0..blocks_of(&entry) {
-            for r in 0..ROWS_OF_A_BLOCK {
-                let start = block * BLOCK + 4 * r;
-                let row = &book[start..start + 4];
-                let used = sheet_block * ROWS_OF_A_BLOCK + r < entry.rows;
-                if !right_row(book, &entry, used, row) {
-                    return Some(block);
-                }
-            }
-            block += 1;
-        }
-    }
-    None
-}
-
-/// "A row is 4 bytes: k values, each below its column's V, then zeros. Unused rows are zero."
-fn right_row(head: &[u8], entry: &head::Entry, used: bool, row: &[u8]) -> bool {
-    row.iter().enumerate().all(|(i, &byte)| {
-        if used && i < entry.width {
-            usize::from(byte) < head::values(head, entry.columns[i])
-        } else {
-            byte == 0
-        }
-    })
 }

@@ -1,4 +1,4 @@
-//! What is worked by hand, and what is checked by its definition alone. The edges of document 01, each with
+//! What is worked by hand, and what is checked by its definition alone. The edges of the documents, each with
 //! its number, are tests of `conformance`, where both versions are held against them.
 
 mod defined;
@@ -63,12 +63,25 @@ fn a_sum_past_32_bits_leaves_out_its_carries() {
     assert_eq!(check(&book), 3 * 65_536);
 }
 
+/// Byte 512 is the first that a row can have, and 16,891 the last; the four bytes of each block's check
+/// lie between two places.
+#[test]
+fn places_of_rows() {
+    for (refusal, places) in &book_refusals()[4..] {
+        let (first, last) = (512 / 4, 16_891 / 4);
+        let rows = (first..=last).filter(|place| 4 * place % 512 != 508);
+        assert!(rows.eq(places.iter().copied()), "refusal {refusal}");
+    }
+}
+
 /// The lists that every table goes by.
 #[test]
 fn kinds_and_refusals() {
     let books = book_refusals().into_iter();
     let places = books.map(|(refusal, places)| (refusal, places.len()));
-    assert!(places.eq([(1, 1), (2, 33), (3, 505), (4, 33), (5, 32)]));
+    // 127 rows in each of 32 blocks
+    let rows = 4_064;
+    assert!(places.eq([(1, 1), (2, 33), (3, 505), (4, 33), (5, rows), (6, rows)]));
     assert_eq!(run_refusals(), [10, 11]);
     let refusals = Kind::ALL.map(Kind::refusals);
     let expected: [&[u8]; 5] = [&[25, 21, 22], &[25, 23], &[25, 24], &[25], &[20]];

@@ -4,7 +4,7 @@ use native.Mathlib.Omega.{arith}
 use borrow.Author.Needs.{needs}
 use borrow.Author.Tests.{lt-ltb, le-ltb}
 use Rattle.heads.specs.Heads.{widthOf}
-use Rattle.book.specs.Rows.{placeBound}
+use Rattle.book.specs.Bounds.{placeBound}
 use Rattle.heads.proofs.Heads.{column-inside, sheets-most, values-range}
 use Rattle.book.proofs.row.place_bound.Statement.{statement}
 use Rattle.book.proofs.row.place_bound.Tie as tie

@@ -1,0 +1,64 @@
+//! The blocks of the sheets: where a row stands, and the faults of the bytes there.
+
+use crate::{blocks_of, head, BLOCK, ROWS_OF_A_BLOCK};
+
+/// A refusal, and the offset of its byte in the whole file.
+pub type RowFault = (u64, usize);
+
+/// The number and the place: "The place is the offset in the whole file divided by 4, rounded down,
+/// for the first fault in file order. Answers: 6 for filler, ranked with 5 by file order."
+pub(crate) fn refusal(book: &[u8]) -> Option<(u64, usize)> {
+    let mut faults = row_faults(book).into_iter();
+    let (number, offset) = faults.next()?;
+    Some((number, place(offset)))
+}
+
+/// "the offset in the whole file divided by 4, rounded down"
+fn place(offset: usize) -> usize {
+    offset / 4
+}
+
+/// The two refusals, each with every place that it can have: any row of the 32 blocks after the head.
+pub(crate) fn refusals() -> [(u64, Vec<usize>); 2] {
+    let rows = 0..32 * ROWS_OF_A_BLOCK;
+    let places: Vec<usize> = rows.map(|r| place(start(1, r))).collect();
+    [5, 6].map(|number| (number, places.clone()))
+}
+
+/// Every fault of the rows, "in file order", byte by byte. The head and the number of blocks are right.
+pub fn row_faults(book: &[u8]) -> Vec<RowFault> {
+    let mut faults = Vec::new();
+    let mut block = 1;
+    for s in 0..head::sheets(book) {
+        let entry = head::entry(book, s);
+        for r in 0..blocks_of(&entry) * ROWS_OF_A_BLOCK {
+            let used = r < entry.rows;
+            for i in 0..4 {
+                let offset = start(block, r) + i;
+                let number = fault(book, &entry, used, i, book[offset]);
+                faults.extend(number.map(|number| (number, offset)));
+            }
+        }
+        block += blocks_of(&entry);
+    }
+    faults
+}
+
+/// "A row is 4 bytes: k values, each below its column's V, then zeros. Unused rows are zero." The
+/// refusal for byte i of a row, if it is at fault.
+fn fault(head: &[u8], entry: &head::Entry, used: bool, i: usize, byte: u8) -> Option<u64> {
+    if used && i < entry.width {
+        // "Refusal 5 is now only for a value that is too large."
+        let right = usize::from(byte) < head::values(head, entry.columns[i]);
+        (!right).then_some(5)
+    } else {
+        // "A filler byte that isn't zero gets its own number." "6 for filler"
+        (byte != 0).then_some(6)
+    }
+}
+
+/// Where row r of a sheet stands in the whole file; the sheet's rows start with this block.
+pub(crate) fn start(first_block: usize, r: usize) -> usize {
+    let block = first_block + r / ROWS_OF_A_BLOCK;
+    block * BLOCK + 4 * (r % ROWS_OF_A_BLOCK)
+}

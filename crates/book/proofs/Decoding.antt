@@ -1,28 +1,27 @@
 -- An accepted book has nothing wrong in it, and stands for a well-formed book. Assumes nothing.
-use mathlib.Core.Path.{_∙_, _≡_, ap, ap₂, sym}
-use mathlib.Core.Bool.{false, true}
+use mathlib.Core.Path.{_∙_, _≡_, ap, ap₂, refl, sym}
+use mathlib.Core.Bool.{false}
 use mathlib.Core.Logic.{_⊎_, inl, inr}
 use mathlib.Core.List.{List, List·Memᴰ, List·Memᴰ·head, List·Memᴰ·not-nil, List·Memᴰ·tail, []}
 use Prim.Native.Nat.{_%_, _*_, _+_, _/_, _<_, _≤_, suc, zero, ℕ}
 use native.Mathlib.Omega.{arith}
-use lib.Dec.{eqb}
 use lib.ListN.{length}
-use borrow.Author.Tests.{eqb-false, eqb-true, leb-false, lt-ltb}
+use borrow.Author.Tests.{leb-false, lt-ltb}
 use Rattle.fields.specs.Bytes.{byteAt}
 use Rattle.model.specs.Books.{WellFormed, WellFormedSheet}
 use Rattle.model.specs.Tests.{NoneIn, tab}
 use Rattle.model.proofs.Firsts.{any-none}
-use Rattle.model.proofs.Tests.{below, either, getD-tab, length-tab}
+use Rattle.model.proofs.Tests.{below, getD-tab, length-tab}
 use Rattle.heads.specs.Blocks.{RightChecks, RightLength, blockCount}
 use Rattle.book.specs.Decoding.{AcceptedWellFormed, bookOf, rowOf, sheetOf}
 use Rattle.heads.specs.Heads.{RightHead, columnOf, columnsOf, rowsOf, sheetsOf, valuesOf, widthOf}
-use Rattle.book.specs.Rows.{blocksNeeded, blocksOf, clean, firstFault, rowPlace, wrongBlock, wrongByte, wrongSheet}
-use Rattle.book.specs.Verdicts.{Accepted, checkResult, refused}
-use Rattle.book.specs.Bounds.{faultNumber, placeBound}
+use Rattle.book.specs.Rows.{RowFault, blocksNeeded, blocksOf, clean, fault, firstFault, notZero, rowPlace, tooLarge, wrongBlock, wrongByte, wrongSheet}
+use Rattle.book.specs.Verdicts.{Accepted, checkResult, numberOf, rowVerdict}
+use Rattle.book.specs.Bounds.{placeBound}
 use Rattle.book.specs.Places.{wrongCell}
 use Rattle.book.proofs.Bounds.{bound-used}
 use Rattle.book.proofs.Rows.{clean-none, firstBlock-later, row-byte}
-use Rattle.book.proofs.Verdicts.{later-blocks, later-checks, later-head, later-length, number-large, number-zero, result-accepted, result-row, right-length}
+use Rattle.book.proofs.Verdicts.{later-blocks, later-checks, later-head, later-length, later-rows, result-accepted, right-length}
 use Rattle.heads.proofs.Heads.{column-inside, column-rises, columns-range, rows-most, sheets-most, values-range, width-range}
 
 -- ---- nothing is wrong
@@ -34,25 +33,20 @@ pub record RightBook (b : List ℕ) : Type 0 where
   pub rows : firstFault b ≡ clean
 
 module _ (b : List ℕ) (a : Accepted b) where
-  -- a number that is a refusal's is no accepted one
-  later : (n place : ℕ) → 1 ≤ n → n ≤ 4 → place < 65536 → checkResult b ≡ refused n place → ⊥
-  later n place p q r e = omega arith
-
   no-fault : firstFault b ≡ clean
-  no-fault = go (either (eqb (faultNumber (firstFault b)) 0))
+  no-fault = go (firstFault b) (later-rows b (inl a))
     where
-      go : (eqb (faultNumber (firstFault b)) 0 ≡ true) ⊎ (eqb (faultNumber (firstFault b)) 0 ≡ false) → firstFault b ≡ clean
-      go (inl e) = number-zero (firstFault b) (eqb-true (faultNumber (firstFault b)) 0 e)
-      go (inr e) =
-          let h = eqb-false (faultNumber (firstFault b)) 0 e in
-          absurd (omega (arith, result-row b (later-length b later) (later-checks b later) (later-head b later) (later-blocks b later) h, number-large (firstFault b) h))
+      go : (f : RowFault) → checkResult b ≡ numberOf (rowVerdict b f) → f ≡ clean
+      go clean e = refl
+      go (fault offset tooLarge) e = absurd (omega arith)
+      go (fault offset notZero) e = absurd (omega arith)
 
   pub accepted-right : RightBook b
   accepted-right = record {
-    length-right = later-length b later;
-    checks = later-checks b later;
-    head = later-head b later;
-    blocks = later-blocks b later;
+    length-right = later-length b (inl a);
+    checks = later-checks b (inl a);
+    head = later-head b (inl a);
+    blocks = later-blocks b (inl a);
     rows = no-fault;
   }
 

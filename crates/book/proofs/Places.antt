@@ -12,19 +12,19 @@ use Rattle.model.proofs.Firsts.{any-none, firstIn-found, firstIn-lowest}
 use Rattle.model.proofs.Tests.{and-l, and-r, below, either}
 use Rattle.fields.specs.Bytes.{byteAt}
 use Rattle.heads.specs.Heads.{rowsOf, sheetsOf, widthOf}
-use Rattle.book.specs.Rows.{blocksNeeded, blocksOf, boundOf, faultAt, firstBlock, firstFault, isValue, rowPlace, wrongBlock, wrongByte, wrongSheet}
+use Rattle.book.specs.Rows.{blocksNeeded, blocksOf, boundOf, faultAt, firstBlock, isValue, rowPlace, wrongBlock, wrongByte, wrongSheet}
 use Rattle.book.specs.Verdicts.{checkResult, numberOf, refused, rowVerdict}
 use Rattle.book.specs.Bounds.{faultNumber}
 use Rattle.book.specs.Places.{FirstFault, LargeValue, PlacesTell, WrongFiller, placeByte, placeColumn, placeRow, placeSheet, wrongCell}
 use Rattle.book.proofs.Rows.{Faulty, FirstAt, blocks-most, fault-none, fault-or-none, firstBlock-later, row-byte}
-use Rattle.book.proofs.Verdicts.{later-blocks, later-checks, later-head, later-length, number-filler, number-value, result-rows}
+use Rattle.book.proofs.Verdicts.{later-head, later-rows, number-filler, number-value, placeOf}
 use Rattle.heads.proofs.Heads.{columns-range, sheets-most}
 
 module _ (b : List ℕ) (s q i : ℕ) (f : FirstAt b s q i) where
   -- ---- where it is
   -- its place, and its row
-  abbrev pub placeOf : ℕ
-  placeOf = 128 * (firstBlock b s + q) + i / 4
+  abbrev place : ℕ
+  place = placeOf b s q i
 
   abbrev row : ℕ
   row = 127 * q + i / 4
@@ -32,10 +32,10 @@ module _ (b : List ℕ) (s q i : ℕ) (f : FirstAt b s q i) where
   byte : i < 508
   byte = f .byte
 
-  block : placeOf / 128 ≡ firstBlock b s + q
+  block : place / 128 ≡ firstBlock b s + q
   block = omega (arith, byte)
 
-  sheet-there : placeSheet b placeOf ≡ s
+  sheet-there : placeSheet b place ≡ s
   unfolding placeSheet
   sheet-there =
       rw block
@@ -43,11 +43,11 @@ module _ (b : List ℕ) (s q i : ℕ) (f : FirstAt b s q i) where
       (record { at = λ t l p. le-ltb (firstBlock b s + q) (firstBlock b t + blocksOf b t) (omega (arith, firstBlock-later b t s p)) })
       (lt-ltb (firstBlock b s + q) (firstBlock b s + blocksOf b s) (omega (arith, f .block)))))
 
-  row-there : placeRow b placeOf ≡ row
+  row-there : placeRow b place ≡ row
   unfolding placeRow
   row-there = rw sheet-there (omega (arith, byte))
 
-  stands-there : rowPlace b s row ≡ 4 * placeOf
+  stands-there : rowPlace b s row ≡ 4 * place
   unfolding rowPlace
   stands-there = omega (arith, byte)
 
@@ -58,14 +58,16 @@ module _ (b : List ℕ) (s q i : ℕ) (f : FirstAt b s q i) where
       let er : row % 127 ≡ i / 4 = omega (arith, byte) in
       sym (rw (eq, er) at (row-byte b s row j l))
 
-  byte-there : placeByte b placeOf ≡ i % 4
+  wrong-there : wrongCell b s row (i % 4) ≡ true
+  wrong-there = let e : 4 * (i / 4) + i % 4 ≡ i = omega arith in cell (i % 4) (omega arith) ∙ ap (wrongByte b s q) e ∙ f .wrong
+
+  byte-there : placeByte b place ≡ i % 4
   unfolding placeByte
   byte-there =
-      let e : 4 * (i / 4) + i % 4 ≡ i = omega arith in
       rw (sheet-there, row-there)
       (firstIn-lowest (firstIn-found (omega arith) (omega arith)
       (record { at = λ j l p. cell j (omega arith) ∙ f .bytes-before .at _ (omega arith) (omega arith) })
-      (cell (i % 4) (omega arith) ∙ ap (wrongByte b s q) e ∙ f .wrong)))
+      wrong-there))
 
   -- ---- nothing before it
   -- in another sheet
@@ -75,7 +77,7 @@ module _ (b : List ℕ) (s q i : ℕ) (f : FirstAt b s q i) where
       sym (row-byte b t r j m) ∙ any-none (any-none (f .sheets-before .at t (omega arith) l) .at (r / 127) (omega arith) (omega arith)) .at _ (omega arith) (omega arith)
 
   -- in its own
-  row-right : (r j : ℕ) → r < 127 * blocksOf b s → j < 4 → rowPlace b s r + j < 4 * placeOf + i % 4 → wrongCell b s r j ≡ false
+  row-right : (r j : ℕ) → r < 127 * blocksOf b s → j < 4 → rowPlace b s r + j < 4 * place + i % 4 → wrongCell b s r j ≡ false
   unfolding wrongBlock rowPlace
   row-right r j p m l = sym (row-byte b s r j m) ∙ go (below (r / 127) q)
     where
@@ -85,7 +87,7 @@ module _ (b : List ℕ) (s q i : ℕ) (f : FirstAt b s q i) where
           let e : r / 127 ≡ q = omega (arith, byte) in
           ap (λ (n : ℕ). wrongByte b s n (4 * (r % 127) + j)) e ∙ f .bytes-before .at _ (omega arith) (omega (arith, byte))
 
-  cell-right : (t r j : ℕ) → t < sheetsOf b → r < 127 * blocksOf b t → j < 4 → rowPlace b t r + j < 4 * placeOf + i % 4 → wrongCell b t r j ≡ false
+  cell-right : (t r j : ℕ) → t < sheetsOf b → r < 127 * blocksOf b t → j < 4 → rowPlace b t r + j < 4 * place + i % 4 → wrongCell b t r j ≡ false
   unfolding rowPlace
   cell-right t r j n p m l = go (below t s) (below s t)
     where
@@ -96,7 +98,7 @@ module _ (b : List ℕ) (s q i : ℕ) (f : FirstAt b s q i) where
           rw e (row-right r j (rw e at p) m (rw e at l))
 
   -- ---- so the place tells
-  pub first-fault : FirstFault b placeOf
+  pub first-fault : FirstFault b place
   first-fault = record {
     sheet = rw sheet-there (f .sheet);
     row = rw (row-there, sheet-there) (omega (arith, f .block, byte));
@@ -105,16 +107,13 @@ module _ (b : List ℕ) (s q i : ℕ) (f : FirstAt b s q i) where
     wrong = rw (sheet-there, row-there, byte-there) wrong-there;
     first = rw byte-there cell-right;
   }
-    where
-      wrong-there : wrongCell b s row (i % 4) ≡ true
-      wrong-there = let e : 4 * (i / 4) + i % 4 ≡ i = omega arith in cell (i % 4) (omega arith) ∙ ap (wrongByte b s q) e ∙ f .wrong
 
   -- what stands there is no lower than its bound
-  found : boundOf b s row (i % 4) ≤ byteAt b (4 * placeOf + i % 4)
+  found : boundOf b s row (i % 4) ≤ byteAt b (4 * place + i % 4)
   unfolding wrongCell
-  found = leb-true _ _ (rw (sheet-there, row-there, byte-there, stands-there) at (first-fault .wrong))
+  found = leb-true _ _ (rw stands-there at wrong-there)
 
-  pub large-value : isValue b s row (i % 4) ≡ true → LargeValue b placeOf
+  pub large-value : isValue b s row (i % 4) ≡ true → LargeValue b place
   unfolding isValue boundOf placeColumn
   large-value e = record {
     fault = first-fault;
@@ -123,7 +122,7 @@ module _ (b : List ℕ) (s q i : ℕ) (f : FirstAt b s q i) where
     large = rw (sheet-there, byte-there) (rw e at found);
   }
 
-  pub wrong-filler : isValue b s row (i % 4) ≡ false → WrongFiller b placeOf
+  pub wrong-filler : isValue b s row (i % 4) ≡ false → WrongFiller b place
   unfolding isValue boundOf
   wrong-filler e = record { fault = first-fault; filler = rw (row-there, sheet-there, byte-there) (go (below row (rowsOf b s))); not-zero = rw byte-there (rw e at found) }
     where
@@ -133,16 +132,16 @@ module _ (b : List ℕ) (s q i : ℕ) (f : FirstAt b s q i) where
 
 -- ---- read off the number
 module _ (b : List ℕ) (from : 5 ≤ checkResult b / 65536) where
-  later : (n place : ℕ) → 1 ≤ n → n ≤ 4 → place < 65536 → checkResult b ≡ refused n place → ⊥
-  later n place p q r e = omega arith
+  later : (checkResult b < 65536) ⊎ (5 * 65536 ≤ checkResult b)
+  later = inr (omega arith)
 
   -- a place is a small number
   module _ (s q i : ℕ) (f : FirstAt b s q i) where
-    small : placeOf b s q i f < 65536
+    small : placeOf b s q i < 65536
     unfolding blocksNeeded
     small = omega (arith, blocks-most b (later-head b later), firstBlock-later b s (sheetsOf b) (f .sheet), f .block, f .byte)
 
-    split : (n : ℕ) → checkResult b ≡ refused n (placeOf b s q i f) → (checkResult b / 65536 ≡ n) × (checkResult b % 65536 ≡ placeOf b s q i f)
+    split : (n : ℕ) → checkResult b ≡ refused n (placeOf b s q i) → (checkResult b / 65536 ≡ n) × (checkResult b % 65536 ≡ placeOf b s q i)
     split n e = (omega (arith, small), omega (arith, small))
 
   -- what the number tells
@@ -155,9 +154,6 @@ module _ (b : List ℕ) (from : 5 ≤ checkResult b / 65536) where
   unfolding faultAt
   told = go (fault-or-none b)
     where
-      numbered : checkResult b ≡ numberOf (rowVerdict b (firstFault b))
-      numbered = result-rows b (later-length b later) (later-checks b later) (later-head b later) (later-blocks b later)
-
       at : (s q i : ℕ) → FirstAt b s q i → checkResult b ≡ faultNumber (faultAt b s q i)
           → (isValue b s (127 * q + i / 4) (i % 4) ≡ true) ⊎ (isValue b s (127 * q + i / 4) (i % 4) ≡ false) → Told
       at s q i f e (inl h) = let k = split s q i f 5 (e ∙ number-value b s q i h) in inl (k .0, rw (k .1) (large-value b s q i f h))
@@ -165,9 +161,9 @@ module _ (b : List ℕ) (from : 5 ≤ checkResult b / 65536) where
 
       go : NoneIn (wrongSheet b) 0 (sheetsOf b) ⊎ Faulty b → Told
       go (inl h) =
-          let e = numbered ∙ ap (λ f. numberOf (rowVerdict b f)) (fault-none b h) in
+          let e = later-rows b later ∙ ap (λ f. numberOf (rowVerdict b f)) (fault-none b h) in
           absurd (omega (arith, e, columns-range b (later-head b later) .1, sheets-most b (later-head b later)))
-      go (inr f) = at _ _ _ (f .first) (numbered ∙ ap (λ f. numberOf (rowVerdict b f)) (f .same)) (either _)
+      go (inr f) = at _ _ _ (f .first) (later-rows b later ∙ ap (λ f. numberOf (rowVerdict b f)) (f .same)) (either _)
 
 -- the statement of specs/Places.antt
 pub placesTell : (b : List ℕ) → PlacesTell b

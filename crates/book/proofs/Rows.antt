@@ -11,7 +11,7 @@ use borrow.Author.Tests.{lt-ltb, le-ltb}
 use Rattle.model.specs.Tests.{FirstIn, NoneIn, lowest, sum}
 use Rattle.model.proofs.Firsts.{firstIn-found, firstIn-lowest, firstIn-most, firstIn-none, lowest-firstIn, none-lowest}
 use Rattle.model.proofs.Tests.{anyBelow-e, anyBelow-i, below, sum-last}
-use Rattle.heads.specs.Heads.{RightHead, rowsOf, sheetsOf}
+use Rattle.heads.specs.Heads.{RightHead, sheetsOf}
 use Rattle.book.specs.Rows.{RowFault, blocksNeeded, blocksOf, clean, fault, faultAt, faultInBlock, faultInSheet, firstBlock, firstFault, rowPlace, wrongBlock, wrongByte, wrongSheet}
 use Rattle.book.specs.Places.{wrongCell}
 use Rattle.heads.proofs.Heads.{rows-most, sheets-most}
@@ -25,36 +25,26 @@ pub firstBlock-more : (b : List ℕ) (s : ℕ) → firstBlock b (s + 1) ≡ firs
 unfolding firstBlock
 firstBlock-more b s = rw add-one (omega (arith, sum-last s (blocksOf b)))
 
-pub rows-blocks : (b : List ℕ) (s : ℕ) → rowsOf b s ≤ 508 → blocksOf b s ≤ 4
-unfolding blocksOf
-rows-blocks b s p = omega arith
+firstBlock-suc : (b : List ℕ) (s : ℕ) → firstBlock b (suc s) ≡ firstBlock b s + blocksOf b s
+firstBlock-suc b s = rw (← add-one) (firstBlock-more b s)
 
 -- the blocks of a sheet lie before those of every later one
 pub firstBlock-later : (b : List ℕ) (s n : ℕ) → s < n → firstBlock b s + blocksOf b s ≤ firstBlock b n
 firstBlock-later b s zero h = absurd (omega arith)
 firstBlock-later b s (suc n) h = go (below s n) (firstBlock-later b s n)
   where
-    step : firstBlock b (suc n) ≡ firstBlock b n + blocksOf b n
-    step = rw (← add-one) (firstBlock-more b n)
-
     go : (s < n) ⊎ (n ≤ s) → (s < n → firstBlock b s + blocksOf b s ≤ firstBlock b n) → firstBlock b s + blocksOf b s ≤ firstBlock b (suc n)
-    go (inl p) r = omega (arith, r p, step)
-    go (inr p) r = let e : s ≡ n = omega arith in omega (arith, step, ap (firstBlock b) e, ap (blocksOf b) e)
+    go (inl p) r = omega (arith, r p, firstBlock-suc b n)
+    go (inr p) r = let e : s ≡ n = omega arith in omega (arith, firstBlock-suc b n, ap (firstBlock b) e, ap (blocksOf b) e)
 
 -- a right head needs 33 blocks at most
 pub blocks-most : (b : List ℕ) → RightHead b → blocksNeeded b ≤ 33
-unfolding blocksNeeded
+unfolding blocksNeeded blocksOf
 blocks-most b h = omega (arith, few (sheetsOf b) (le-refl _), sheets-most b h)
   where
-    step : (s : ℕ) → firstBlock b (suc s) ≡ firstBlock b s + blocksOf b s
-    step s = rw (← add-one) (firstBlock-more b s)
-
-    blocks-few : (s : ℕ) → s < sheetsOf b → blocksOf b s ≤ 4
-    blocks-few s p = rows-blocks b s (rows-most b h s p)
-
     few : (s : ℕ) → s ≤ sheetsOf b → firstBlock b s ≤ 1 + 4 * s
     few zero p = omega (arith, firstBlock-zero b)
-    few (suc s) p = omega (arith, few s (omega arith), step s, blocks-few s p)
+    few (suc s) p = omega (arith, few s (omega arith), firstBlock-suc b s, rows-most b h s p)
 
 -- ---- the bytes of a row
 -- byte j of row r is a byte of its block

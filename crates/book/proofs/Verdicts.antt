@@ -56,7 +56,7 @@ module _ (b : List ℕ) where
         result-blocks h = rw (h1, checks, fields, ne-eqb _ _ h)
 
         module _ (h4 : blocksNeeded b ≡ blockCount b) where
-          pub result-rows : checkResult b ≡ numberOf (rowVerdict b (firstFault b))
+          result-rows : checkResult b ≡ numberOf (rowVerdict b (firstFault b))
           unfolding checkResult verdict
           result-rows = rw (h1, checks, fields, eq-eqb _ _ h4)
 
@@ -72,16 +72,20 @@ module _ (b : List ℕ) where
 
 -- ---- the number of a fault
 module _ (b : List ℕ) (s q i : ℕ) where
-  place : (512 * (firstBlock b s + q) + i) / 4 ≡ 128 * (firstBlock b s + q) + i / 4
+  -- the place of byte i of block q of sheet s
+  abbrev pub placeOf : ℕ
+  placeOf = 128 * (firstBlock b s + q) + i / 4
+
+  place : (512 * (firstBlock b s + q) + i) / 4 ≡ placeOf
   place = omega arith
 
   -- of a value
-  pub number-value : isValue b s (127 * q + i / 4) (i % 4) ≡ true → faultNumber (faultAt b s q i) ≡ refused 5 (128 * (firstBlock b s + q) + i / 4)
+  pub number-value : isValue b s (127 * q + i / 4) (i % 4) ≡ true → faultNumber (faultAt b s q i) ≡ refused 5 placeOf
   unfolding faultAt kindOf
   number-value e = rw (e, place)
 
   -- of filler
-  pub number-filler : isValue b s (127 * q + i / 4) (i % 4) ≡ false → faultNumber (faultAt b s q i) ≡ refused 6 (128 * (firstBlock b s + q) + i / 4)
+  pub number-filler : isValue b s (127 * q + i / 4) (i % 4) ≡ false → faultNumber (faultAt b s q i) ≡ refused 6 placeOf
   unfolding faultAt kindOf
   number-filler e = rw (e, place)
 
@@ -91,28 +95,29 @@ number-zero clean e = refl
 number-zero (fault offset tooLarge) e = absurd (omega arith)
 number-zero (fault offset notZero) e = absurd (omega arith)
 
--- which is no accepted one
-pub number-large : (f : RowFault) → (faultNumber f ≡ 0 → ⊥) → 65536 ≤ faultNumber f
-number-large clean h = absurd (h refl)
-number-large (fault offset tooLarge) h = omega arith
-number-large (fault offset notZero) h = omega arith
+-- ---- a number that is none of refusals 1 to 4: all but the rows is right, and it goes by them
+module _ (b : List ℕ) (later : (checkResult b < 65536) ⊎ (5 * 65536 ≤ checkResult b)) where
+  not-refused : (n place : ℕ) → 1 ≤ n → n ≤ 4 → place < 65536 → checkResult b ≡ refused n place → ⊥
+  not-refused n place p q r e = go later
+    where
+      go : (checkResult b < 65536) ⊎ (5 * 65536 ≤ checkResult b) → ⊥
+      go (inl l) = omega arith
+      go (inr l) = omega arith
 
--- ---- a number that is none of refusals 1 to 4: all but the rows is right
-module _ (b : List ℕ) (later : (n place : ℕ) → 1 ≤ n → n ≤ 4 → place < 65536 → checkResult b ≡ refused n place → ⊥) where
   pub later-length : RightLength b
   later-length = go (either (wrongLength b))
     where
       go : (wrongLength b ≡ true) ⊎ (wrongLength b ≡ false) → wrongLength b ≡ false
-      go (inl e) = absurd (later 1 0 (omega arith) (omega arith) (omega arith) (result-length b e))
+      go (inl e) = absurd (not-refused 1 0 (omega arith) (omega arith) (omega arith) (result-length b e))
       go (inr e) = e
 
   pub later-checks : RightChecks b
   later-checks =
       lowest-none (blockCount b)
-      (λ l. later 2 _ (omega arith) (omega arith) (omega (arith, right-length b later-length .2)) (result-check b later-length _ (lowest-firstIn (blockCount b)) l))
+      (λ l. not-refused 2 _ (omega arith) (omega arith) (omega (arith, right-length b later-length .2)) (result-check b later-length _ (lowest-firstIn (blockCount b)) l))
 
   pub later-head : RightHead b
-  later-head = lowest-none 508 (λ l. later 3 _ (omega arith) (omega arith) (omega arith) (result-field b later-length later-checks _ (lowest-firstIn 508) l))
+  later-head = lowest-none 508 (λ l. not-refused 3 _ (omega arith) (omega arith) (omega arith) (result-field b later-length later-checks _ (lowest-firstIn 508) l))
 
   pub later-blocks : blocksNeeded b ≡ blockCount b
   later-blocks = go (either (eqb (blocksNeeded b) (blockCount b)))
@@ -120,7 +125,10 @@ module _ (b : List ℕ) (later : (n place : ℕ) → 1 ≤ n → n ≤ 4 → pla
       go : (eqb (blocksNeeded b) (blockCount b) ≡ true) ⊎ (eqb (blocksNeeded b) (blockCount b) ≡ false) → blocksNeeded b ≡ blockCount b
       go (inl e) = eqb-true (blocksNeeded b) (blockCount b) e
       go (inr e) =
-          absurd (later 4 _ (omega arith) (omega arith) (omega (arith, blocks-most b later-head)) (result-blocks b later-length later-checks later-head (eqb-false (blocksNeeded b) (blockCount b) e)))
+          absurd (not-refused 4 _ (omega arith) (omega arith) (omega (arith, blocks-most b later-head)) (result-blocks b later-length later-checks later-head (eqb-false (blocksNeeded b) (blockCount b) e)))
+
+  pub later-rows : checkResult b ≡ numberOf (rowVerdict b (firstFault b))
+  later-rows = result-rows b later-length later-checks later-head later-blocks
 
 -- a right length is that of a head at least
 pub head-there : (b : List ℕ) → RightLength b → 512 ≤ length b

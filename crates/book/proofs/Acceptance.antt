@@ -1,15 +1,15 @@
 -- The worked examples, by computation. A wrong definition shows here first. Assumes nothing.
 use mathlib.Core.Path.{refl}
 use Rattle.heads.proofs.Acceptance.{computing as head-computing}
-use Rattle.book.specs.Rows.{blocksOf, firstBlock, blocksNeeded, rowPlace, isValue, boundOf, wrongByte, wrongBlock, wrongSheet, kindOf, faultAt, faultInBlock, faultInSheet, firstFault}
+use Rattle.book.specs.Rows.{blocksOf, firstBlock, blocksNeeded, rowPlace, isValue, boundOf, isWrong, wrongByte, wrongBlock, wrongSheet, kindOf, faultAt, faultInBlock, faultInSheet, firstFault}
 use Rattle.book.specs.Verdicts.{verdict, checkResult}
 use Rattle.book.specs.Places.{placeSheet, placeRow, wrongCell, placeByte, placeColumn}
 use Rattle.book.specs.Decoding.{rowOf, sheetOf, bookOf}
-use Rattle.book.specs.Acceptance.{sealed, HarbourFacts, NumberFacts, PlaceFacts, RowFacts}
+use Rattle.book.specs.Acceptance.{sealed, AnyFacts, HarbourFacts, NumberFacts, PlaceFacts, RowFacts}
 
 -- opens every definition that an example computes with; where one is missing, the example fails uncomputed, and not with `true` against `false`
 unfoldable pub computing : Unit {0}
-unfolding head-computing blocksOf firstBlock blocksNeeded rowPlace isValue boundOf wrongByte wrongBlock wrongSheet kindOf faultAt faultInBlock faultInSheet firstFault verdict checkResult placeSheet placeRow wrongCell placeByte placeColumn rowOf sheetOf bookOf sealed
+unfolding head-computing blocksOf firstBlock blocksNeeded rowPlace isValue boundOf isWrong wrongByte wrongBlock wrongSheet kindOf faultAt faultInBlock faultInSheet firstFault verdict checkResult placeSheet placeRow wrongCell placeByte placeColumn rowOf sheetOf bookOf sealed
 computing = tt
 
 pub harbourFacts : HarbourFacts
@@ -41,6 +41,25 @@ rowFacts = record {
   next-unused = refl;
 }
 
+pub anyFacts : AnyFacts
+unfolding computing
+anyFacts = record {
+  first = refl;
+  last = refl;
+  first-254 = refl;
+  last-254 = refl;
+  only-value = refl;
+  value-1 = refl;
+  value-31 = refl;
+  value-32 = refl;
+  large-kind = refl;
+  filler = refl;
+  filler-kind = refl;
+  unused = refl;
+  unused-kind = refl;
+  decoded = refl;
+}
+
 pub numberFacts : NumberFacts
 numberFacts = record {
   large = refl;
@@ -60,5 +79,6 @@ placeFacts = record {
   next-row = refl;
   second-block = refl;
   second-byte = refl;
+  after-any = refl;
   second-column = refl;
 }

@@ -1,25 +1,27 @@
 -- An accepted book has nothing wrong in it, and stands for a well-formed book. Assumes nothing.
 use mathlib.Core.Path.{_∙_, _≡_, ap, ap₂, refl, sym}
-use mathlib.Core.Bool.{false}
+use mathlib.Core.Bool.{true, false}
 use mathlib.Core.Logic.{_⊎_, inl, inr}
 use mathlib.Core.List.{List, List·Memᴰ, List·Memᴰ·head, List·Memᴰ·not-nil, List·Memᴰ·tail, []}
 use Prim.Native.Nat.{_%_, _*_, _+_, _/_, _<_, _≤_, suc, zero, ℕ}
 use native.Mathlib.Omega.{arith}
+use lib.Dec.{ltb}
 use lib.ListN.{length}
-use borrow.Author.Tests.{leb-false, lt-ltb}
+use borrow.Author.Tests.{eqb-true, le-ltb, leb-false, lt-ltb}
 use Rattle.fields.specs.Bytes.{byteAt}
-use Rattle.model.specs.Books.{WellFormed, WellFormedSheet}
+use Rattle.model.specs.Books.{WellFormed, WellFormedSheet, isAny}
+use Rattle.model.specs.Masks.{bit}
 use Rattle.model.specs.Tests.{NoneIn, tab}
 use Rattle.model.proofs.Firsts.{any-none}
-use Rattle.model.proofs.Tests.{below, getD-tab, length-tab}
-use Rattle.heads.specs.Blocks.{RightChecks, RightLength, blockCount}
+use Rattle.model.proofs.Tests.{and-true, below, either, getD-tab, length-tab}
+use Rattle.heads.specs.Blocks.{RightChecks, RightLength, blockAt, blockCount, word}
 use Rattle.book.specs.Decoding.{AcceptedWellFormed, bookOf, rowOf, sheetOf}
 use Rattle.heads.specs.Heads.{RightHead, columnOf, columnsOf, rowsOf, sheetsOf, valuesOf, widthOf}
-use Rattle.book.specs.Rows.{RowFault, blocksNeeded, blocksOf, clean, fault, firstFault, notZero, rowPlace, tooLarge, wrongBlock, wrongByte, wrongSheet}
+use Rattle.book.specs.Rows.{RowFault, blocksNeeded, blocksOf, clean, fault, firstBlock, firstFault, notZero, rowPlace, tooLarge, wrongBlock, wrongByte, wrongSheet}
 use Rattle.book.specs.Verdicts.{Accepted, checkResult, numberOf, rowVerdict}
-use Rattle.book.specs.Bounds.{placeBound}
+use Rattle.book.specs.Bounds.{joined, overAt, placeBound}
 use Rattle.book.specs.Places.{wrongCell}
-use Rattle.book.proofs.Bounds.{bound-used}
+use Rattle.book.proofs.Bounds.{any-joined, wrong-used}
 use Rattle.book.proofs.Rows.{clean-none, firstBlock-later, row-byte}
 use Rattle.book.proofs.Verdicts.{later-blocks, later-checks, later-head, later-length, later-rows, result-accepted, right-length}
 use Rattle.heads.proofs.Heads.{column-inside, column-rises, columns-range, rows-most, sheets-most, values-range, width-range}
@@ -50,7 +52,7 @@ module _ (b : List ℕ) (a : Accepted b) where
     rows = no-fault;
   }
 
--- ---- so every row value is below its column's V
+-- ---- so every row value is below its column's V, or 255
 module _ (b : List ℕ) (h : RightBook b) where
   no-wrong-sheet : NoneIn (wrongSheet b) 0 (sheetsOf b)
   no-wrong-sheet = clean-none b (h .rows)
@@ -61,23 +63,53 @@ module _ (b : List ℕ) (h : RightBook b) where
     no-wrong-byte q i p l =
         any-none (any-none (no-wrong-sheet .at s (omega arith) used) .at q (omega arith) p) .at i (omega arith) l
 
-    -- byte j of row r, which is used, is below its bound
-    pub byte-below : (r j : ℕ) → r < rowsOf b s → j < 4 → byteAt b (rowPlace b s r + j) < placeBound b s j
+    -- byte j of row r, which is used, is not over its bound
+    not-over : (r j : ℕ) → r < rowsOf b s → j < 4 → overAt (ltb j (widthOf b s)) (placeBound b s j) (byteAt b (rowPlace b s r + j)) ≡ false
     unfolding wrongCell blocksOf
-    byte-below r j p l =
-        let e = no-wrong-byte (r / 127) (4 * (r % 127) + j) (omega arith) (omega arith) in
-        leb-false _ _ (rw (row-byte b s r j l, bound-used b s r j p) at e)
+    not-over r j p l =
+        sym (wrong-used b s r j _ p) ∙ sym (row-byte b s r j l) ∙ no-wrong-byte (r / 127) (4 * (r % 127) + j) (omega arith) (omega arith)
 
-    -- at a place of the width that is its column's V
-    pub value-below : (r j : ℕ) → r < rowsOf b s → j < widthOf b s → byteAt b (rowPlace b s r + j) < valuesOf b (columnOf b s j)
+    -- one of the width's is 255, or below its column's V
+    pub value-cell : (r j : ℕ) → r < rowsOf b s → j < widthOf b s
+        → (isAny (byteAt b (rowPlace b s r + j)) ≡ true) ⊎ (byteAt b (rowPlace b s r + j) < valuesOf b (columnOf b s j))
     unfolding placeBound
-    value-below r j p l =
-        rw (lt-ltb j (widthOf b s) l) at (byte-below r j p (omega (arith, width-range b (h .head) s used .1)))
+    value-cell r j p l = go (either (isAny (byteAt b (rowPlace b s r + j))))
+      where
+        go : (isAny (byteAt b (rowPlace b s r + j)) ≡ true) ⊎ (isAny (byteAt b (rowPlace b s r + j)) ≡ false)
+            → (isAny (byteAt b (rowPlace b s r + j)) ≡ true) ⊎ (byteAt b (rowPlace b s r + j) < valuesOf b (columnOf b s j))
+        go (inl e) = inl e
+        go (inr e) = inr (leb-false _ _ (rw (lt-ltb j (widthOf b s) l, e, and-true) at (not-over r j p (omega (arith, width-range b (h .head) s used .1)))))
+
+    -- the others are zero
+    pub filler-zero : (r j : ℕ) → r < rowsOf b s → widthOf b s ≤ j → j < 4 → byteAt b (rowPlace b s r + j) ≡ 0
+    unfolding placeBound
+    filler-zero r j p l q =
+        let e = leb-false 1 (byteAt b (rowPlace b s r + j)) (rw (le-ltb j (widthOf b s) l, and-true) at (not-over r j p q)) in omega arith
 
     -- a row that is used is there
     pub row-inside : (r : ℕ) → r < rowsOf b s → rowPlace b s r + 3 < length b
     unfolding rowPlace blocksOf blocksNeeded
     row-inside r p = omega (arith, right-length b (h .length-right), h .blocks, firstBlock-later b s (sheetsOf b) used)
+
+    row-bytes : (r j : ℕ) → r < rowsOf b s → j < 4 → byteAt b (rowPlace b s r + j) < 256
+    row-bytes r j p l = go (below j (widthOf b s))
+      where
+        value : j < widthOf b s → (isAny (byteAt b (rowPlace b s r + j)) ≡ true) ⊎ (byteAt b (rowPlace b s r + j) < valuesOf b (columnOf b s j))
+            → byteAt b (rowPlace b s r + j) < 256
+        value q (inl e) = let k = eqb-true (byteAt b (rowPlace b s r + j)) 255 e in omega arith
+        value q (inr e) = omega (arith, values-range b (h .head) (columnOf b s j) (column-inside b (h .head) s used j q) .1)
+
+        go : (j < widthOf b s) ⊎ (widthOf b s ≤ j) → byteAt b (rowPlace b s r + j) < 256
+        go (inl q) = value q (value-cell r j p q)
+        go (inr q) = omega (arith, filler-zero r j p q l)
+
+    -- a 255 in row i of block q, a used row, shows in the joined rows of the block
+    pub any-shows : (q i j : ℕ) → i < 127 → 127 * q + i < rowsOf b s → j < 4 → isAny (byteAt b (rowPlace b s (127 * q + i) + j)) ≡ true
+        → bit (8 * j + 7) (joined (word (blockAt b (firstBlock b s + q))) 127) ≡ true
+    unfolding blocksOf blocksNeeded
+    any-shows q i j p l k e =
+        any-joined b s q i j (omega (arith, right-length b (h .length-right), h .blocks, firstBlock-later b s (sheetsOf b) used)) p k
+        (λ m n. row-bytes (127 * q + i) m l n) e
 
 -- ---- the decoded book
 -- an element of a table is one of its function's values
@@ -123,7 +155,7 @@ module _ (b : List ℕ) (h : RightBook b) (s : ℕ) (used : s < sheetsOf b) wher
           getD-tab 0 (widthOf b s) (columnOf b s) i k,
           getD-tab 0 (columnsOf b) (valuesOf b) (columnOf b s i) (column-inside b (h .head) s used i k),
         )
-        (value-below b h s used r i q k);
+        (value-cell b h s used r i q k);
   }
 
 pub right-formed : (b : List ℕ) → RightBook b → WellFormed (bookOf b)

@@ -5,14 +5,15 @@ use mathlib.Core.Logic.{_⊎_, inl, inr}
 use mathlib.Core.List.{List}
 use Prim.Native.Nat.{ℕ, _+_, _*_, _-_, _/_, _%_, _≤_, _<_}
 use native.Mathlib.Omega.{arith}
-use lib.Dec.{ltb}
-use borrow.Author.Tests.{leb-true, lt-ltb, le-ltb, ltb-false, ltb-true}
+use lib.Dec.{leb, ltb}
+use borrow.Author.Tests.{leb-true, lt-ltb, le-ltb, ltb-false, ltb-true, not-true}
+use Rattle.model.specs.Books.{isAny}
 use Rattle.model.specs.Tests.{NoneIn}
 use Rattle.model.proofs.Firsts.{any-none, firstIn-found, firstIn-lowest}
 use Rattle.model.proofs.Tests.{and-l, and-r, below, either}
 use Rattle.fields.specs.Bytes.{byteAt}
 use Rattle.heads.specs.Heads.{rowsOf, sheetsOf, widthOf}
-use Rattle.book.specs.Rows.{blocksNeeded, blocksOf, boundOf, faultAt, firstBlock, isValue, rowPlace, wrongBlock, wrongByte, wrongSheet}
+use Rattle.book.specs.Rows.{blocksNeeded, blocksOf, boundOf, faultAt, firstBlock, isValue, isWrong, rowPlace, wrongBlock, wrongByte, wrongSheet}
 use Rattle.book.specs.Verdicts.{checkResult, numberOf, refused, rowVerdict}
 use Rattle.book.specs.Bounds.{faultNumber}
 use Rattle.book.specs.Places.{FirstFault, LargeValue, PlacesTell, WrongFiller, placeByte, placeColumn, placeRow, placeSheet, wrongCell}
@@ -108,10 +109,18 @@ module _ (b : List ℕ) (s q i : ℕ) (f : FirstAt b s q i) where
     first = rw byte-there cell-right;
   }
 
-  -- what stands there is no lower than its bound
-  found : boundOf b s row (i % 4) ≤ byteAt b (4 * place + i % 4)
+  -- what stands there is no lower than its bound, and no 255 in place of a value
+  wrong-byte : isWrong b s row (i % 4) (byteAt b (4 * place + i % 4)) ≡ true
   unfolding wrongCell
-  found = leb-true _ _ (rw stands-there at wrong-there)
+  wrong-byte = rw stands-there at wrong-there
+
+  found : boundOf b s row (i % 4) ≤ byteAt b (4 * place + i % 4)
+  unfolding isWrong
+  found = leb-true _ _ (and-l _ _ wrong-byte)
+
+  found-plain : isValue b s row (i % 4) ≡ true → isAny (byteAt b (4 * place + i % 4)) ≡ false
+  unfolding isWrong
+  found-plain e = not-true _ (rw e at (and-r (leb (boundOf b s row (i % 4)) (byteAt b (4 * place + i % 4))) _ wrong-byte))
 
   pub large-value : isValue b s row (i % 4) ≡ true → LargeValue b place
   unfolding isValue boundOf placeColumn
@@ -120,6 +129,7 @@ module _ (b : List ℕ) (s q i : ℕ) (f : FirstAt b s q i) where
     used = rw (row-there, sheet-there) (ltb-true _ _ (and-l (ltb row (rowsOf b s)) _ e));
     value = rw (byte-there, sheet-there) (ltb-true _ _ (and-r (ltb row (rowsOf b s)) _ e));
     large = rw (sheet-there, byte-there) (rw e at found);
+    not-any = rw byte-there (found-plain e);
   }
 
   pub wrong-filler : isValue b s row (i % 4) ≡ false → WrongFiller b place

@@ -13,11 +13,12 @@ use Rattle.model.proofs.Firsts.{firstIn-lowest, lowest-firstIn, lowest-none, no
 use Rattle.model.proofs.Tests.{either, or-false-l, or-false-r}
 use Rattle.heads.specs.Blocks.{RightChecks, RightLength, blockCount, firstWrongCheck, wrongCheck, wrongLength}
 use Rattle.heads.specs.Heads.{RightHead, columnsOf, firstWrongField, sheetsOf, wrongField}
-use Rattle.book.specs.Rows.{RowFault, blocksNeeded, clean, fault, faultAt, firstBlock, firstFault, isValue, kindOf, notZero, tooLarge}
+use Rattle.book.specs.Rows.{RowFault, blocksNeeded, blocksOf, clean, fault, faultAt, firstBlock, firstFault, isValue, kindOf, notZero, tooLarge}
 use Rattle.book.specs.Verdicts.{checkResult, numberOf, refused, rowVerdict, verdict}
-use Rattle.book.specs.Bounds.{faultNumber}
+use Rattle.book.specs.Bounds.{SheetThere, faultNumber}
 use Rattle.heads.proofs.Limits.{in-range}
-use Rattle.book.proofs.Rows.{blocks-most}
+use Rattle.heads.proofs.Heads.{sheets-most}
+use Rattle.book.proofs.Rows.{blocks-most, firstBlock-later}
 
 -- a right length is that of 1 to 33 blocks
 pub right-length : (b : List ℕ) → RightLength b → (512 * blockCount b ≡ length b) × (1 ≤ blockCount b) × (blockCount b ≤ 33)
@@ -133,3 +134,13 @@ module _ (b : List ℕ) (later : (checkResult b < 65536) ⊎ (5 * 65536 ≤ chec
 -- a right length is that of a head at least
 pub head-there : (b : List ℕ) → RightLength b → 512 ≤ length b
 head-there b e = let r = right-length b e in omega (arith, r .0, r .1)
+
+-- where the blocks are those that the sheets need, those of a sheet are there, and few
+module _ (b : List ℕ) (h : RightLength b) (n : blocksNeeded b ≡ blockCount b) (s : ℕ) (p : s < sheetsOf b) where
+  pub blocks-few : firstBlock b s + blocksOf b s ≤ 33
+  unfolding blocksNeeded
+  blocks-few = omega (arith, firstBlock-later b s (sheetsOf b) p, right-length b h .2)
+
+  pub blocks-there : RightHead b → SheetThere b s
+  unfolding blocksNeeded
+  blocks-there r = record { head = head-there b h; entry = omega (arith, sheets-most b r); blocks = omega (arith, firstBlock-later b s (sheetsOf b) p, right-length b h .0) }

@@ -10,11 +10,11 @@ use Rattle.fields.specs.Bytes.{wordBytes}
 use Rattle.model.specs.Acceptance.{H}
 use Rattle.heads.specs.Acceptance.{head, padded}
 use Rattle.heads.specs.Blocks.{checkOf}
-use Rattle.book.specs.Rows.{blocksOf, blocksNeeded, rowPlace, wrongByte, tooLarge, notZero, fault, kindOf}
+use Rattle.book.specs.Rows.{blocksOf, blocksNeeded, rowPlace, isWrong, wrongByte, tooLarge, notZero, fault, kindOf}
 use Rattle.book.specs.Verdicts.{refused}
 use Rattle.book.specs.Places.{placeByte, placeColumn, placeRow, placeSheet}
 use Rattle.book.specs.Bounds.{faultNumber}
-use Rattle.book.specs.Decoding.{bookOf}
+use Rattle.book.specs.Decoding.{bookOf, rowOf}
 
 -- ---- books as bytes
 -- blocks n and on, each with its right check
@@ -80,6 +80,28 @@ pub record RowFacts : Type 0 where
   pub next-block : wrongByte (longRows 1) 0 1 0 ≡ false
   pub next-unused : wrongByte (longRows 1) 0 1 4 ≡ true
 
+-- sheet 0 of H, of two columns, with 1 and 32 values; its rows 0 to 3 are used
+abbrev pub anyHead : List ℕ
+anyHead = set (set head 8 1) 9 32
+
+-- "Refusal 5 lets 255 pass.": in the first and the last value of the used rows, and nothing else that is too large; not in filler, nor in the
+-- first unused row
+pub record AnyFacts : Type 0 where
+  pub first : isWrong anyHead 0 0 0 255 ≡ false
+  pub last : isWrong anyHead 0 3 1 255 ≡ false
+  pub first-254 : isWrong anyHead 0 0 0 254 ≡ true
+  pub last-254 : isWrong anyHead 0 3 1 254 ≡ true
+  pub only-value : isWrong anyHead 0 0 0 0 ≡ false
+  pub value-1 : isWrong anyHead 0 0 0 1 ≡ true
+  pub value-31 : isWrong anyHead 0 3 1 31 ≡ false
+  pub value-32 : isWrong anyHead 0 3 1 32 ≡ true
+  pub large-kind : kindOf anyHead 0 3 1 ≡ tooLarge
+  pub filler : isWrong anyHead 0 3 2 255 ≡ true
+  pub filler-kind : kindOf anyHead 0 3 2 ≡ notZero
+  pub unused : isWrong anyHead 0 4 0 255 ≡ true
+  pub unused-kind : kindOf anyHead 0 4 0 ≡ notZero
+  pub decoded : rowOf (both (set bothRows 4 255)) 0 1 ≡ 255 ∷ []
+
 -- "The place is the offset in the whole file divided by 4, rounded down": bytes 516 to 519 are one row; the last byte that can be at fault. Faults in whole
 -- books are worked in crate examples
 pub record NumberFacts : Type 0 where
@@ -89,7 +111,7 @@ pub record NumberFacts : Type 0 where
   pub last : faultNumber (fault 16891 notZero) ≡ refused 6 4222
 
 -- from a place of H to the sheet and the row: the first and the last row of block 1, which is sheet 0's, and the first of block 2; and of a sheet of two
--- blocks the first row of the second; the first wrong byte of a row, and its column
+-- blocks the first row of the second; the first wrong byte of a row, after 255 in place of a value too, and its column
 pub record PlaceFacts : Type 0 where
   pub first-sheet : placeSheet head 128 ≡ 0
   pub first-row : placeRow head 128 ≡ 0
@@ -99,4 +121,5 @@ pub record PlaceFacts : Type 0 where
   pub next-row : placeRow head 256 ≡ 0
   pub second-block : placeRow (longRows 2) 256 ≡ 127
   pub second-byte : placeByte (both (set (set bothRows 5 1) 7 1)) 129 ≡ 1
+  pub after-any : placeByte (both (set (set bothRows 4 255) 7 255)) 129 ≡ 3
   pub second-column : placeColumn (set harbour 1025 2) 256 ≡ 2

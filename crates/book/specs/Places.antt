@@ -9,11 +9,12 @@ use mathlib.Core.Bool.{Bool, true, false}
 use mathlib.Core.Logic.{_⊎_}
 use mathlib.Core.List.{List}
 use Prim.Native.Nat.{ℕ, _+_, _*_, _-_, _/_, _%_, _≤_, _<_}
-use lib.Dec.{ltb, leb}
+use lib.Dec.{ltb}
+use Rattle.model.specs.Books.{isAny}
 use Rattle.model.specs.Tests.{lowest}
 use Rattle.fields.specs.Bytes.{byteAt}
 use Rattle.heads.specs.Heads.{columnOf, rowsOf, sheetsOf, valuesOf, widthOf}
-use Rattle.book.specs.Rows.{blocksOf, boundOf, firstBlock, rowPlace}
+use Rattle.book.specs.Rows.{blocksOf, firstBlock, isWrong, rowPlace}
 use Rattle.book.specs.Verdicts.{checkResult}
 
 -- ---- from the place to the sheet, the row and the column
@@ -27,7 +28,7 @@ placeRow b place = 127 * (place / 128 - firstBlock b (placeSheet b place)) + pla
 
 -- byte j of row r of sheet s is wrong
 unfoldable pub wrongCell : List ℕ → ℕ → ℕ → ℕ → Bool
-wrongCell b s r j = leb (boundOf b s r j) (byteAt b (rowPlace b s r + j))
+wrongCell b s r j = isWrong b s r j (byteAt b (rowPlace b s r + j))
 
 -- which of the four bytes of that row is the first wrong one
 unfoldable pub placeByte : List ℕ → ℕ → ℕ
@@ -51,12 +52,13 @@ pub record FirstFault (b : List ℕ) (place : ℕ) : Type 0 where
   pub first : (s r j : ℕ) → s < sheetsOf b → r < 127 * blocksOf b s → j < 4 → rowPlace b s r + j < 4 * place + placeByte b place
       → wrongCell b s r j ≡ false
 
--- "Refusal 5 is now only for a value that is too large.": the row is used, and the value is not below its column's V
+-- "Refusal 5 is now only for a value that is too large.": the row is used, and the value is not below its column's V. "Refusal 5 lets 255 pass."
 pub record LargeValue (b : List ℕ) (place : ℕ) : Type 0 where
   pub fault : FirstFault b place
   pub used : placeRow b place < rowsOf b (placeSheet b place)
   pub value : placeByte b place < widthOf b (placeSheet b place)
   pub large : valuesOf b (placeColumn b place) ≤ byteAt b (4 * place + placeByte b place)
+  pub not-any : isAny (byteAt b (4 * place + placeByte b place)) ≡ false
 
 -- "A filler byte that isn't zero gets its own number.": the row is not used, or the byte comes after its values
 pub record WrongFiller (b : List ℕ) (place : ℕ) : Type 0 where

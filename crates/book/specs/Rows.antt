@@ -1,8 +1,9 @@
 -- The rows of the sheets: where they stand, and the first fault in them.
-use mathlib.Core.Bool.{Bool, cond, _&&_}
+use mathlib.Core.Bool.{Bool, cond, not, _&&_}
 use mathlib.Core.List.{List}
 use Prim.Native.Nat.{ℕ, _+_, _*_, _/_, _%_}
 use lib.Dec.{ltb, leb}
+use Rattle.model.specs.Books.{isAny}
 use Rattle.model.specs.Tests.{anyBelow, lowest, sum}
 use Rattle.fields.specs.Bytes.{byteAt}
 use Rattle.heads.specs.Heads.{columnOf, rowsOf, sheetsOf, valuesOf, widthOf}
@@ -33,9 +34,13 @@ isValue b s r j = ltb r (rowsOf b s) && ltb j (widthOf b s)
 unfoldable pub boundOf : List ℕ → ℕ → ℕ → ℕ → ℕ
 boundOf b s r j = cond (isValue b s r j) (valuesOf b (columnOf b s j)) 1
 
+-- it is wrong where it is x: not below its bound, and not 255 in place of a value. "Refusal 5 lets 255 pass."
+unfoldable pub isWrong : List ℕ → ℕ → ℕ → ℕ → ℕ → Bool
+isWrong b s r j x = leb (boundOf b s r j) x && not (isValue b s r j && isAny x)
+
 -- byte i of block q of sheet s, i < 508, is wrong: it belongs to row 127 q + i / 4
 unfoldable pub wrongByte : List ℕ → ℕ → ℕ → ℕ → Bool
-wrongByte b s q i = leb (boundOf b s (127 * q + i / 4) (i % 4)) (byteAt b (512 * (firstBlock b s + q) + i))
+wrongByte b s q i = isWrong b s (127 * q + i / 4) (i % 4) (byteAt b (512 * (firstBlock b s + q) + i))
 
 -- some byte of block q of sheet s is wrong
 unfoldable pub wrongBlock : List ℕ → ℕ → ℕ → Bool

@@ -1,4 +1,5 @@
-// The first fault of the rows, and its refusal: the first wrong block is looked at a second time, byte by byte.
+// The first fault of the rows, and its refusal: the first wrong block is looked at once more, row by row, and its wrong row byte by byte.
+use crate::doubt::*;
 use crate::refusal;
 use crate::row::*;
 use heads::block::*;
@@ -11,25 +12,25 @@ ghost use Rattle.model.specs.Tests.{FirstIn};
 ghost use Rattle.heads.specs.Blocks.{RightLength, blockCount};
 ghost use Rattle.heads.specs.Heads.{sheetsOf, RightHead};
 ghost use Rattle.book.specs.Rows.{blocksNeeded, blocksOf, faultAt, faultInBlock, firstBlock, firstFault, isValue};
-ghost use Rattle.book.specs.Bounds.{wrongIn, SheetThere, faultNumber};
+ghost use Rattle.book.specs.Bounds.{wrongIn, SheetThere, SmallBounds, faultNumber};
 
 // Whether byte i of a block is wrong; its first n rows are used.
 fn wrong_in(b: &[u8], m: Bounds, n: usize, i: usize) -> bool
     requires { ⌜ (length (now b) ≡ 512) × (n ≤ 127) × (i < 508) ⌝ }
-    ensures { λ r. ⌜ r ≡ wrongIn (m .w) (m .x) (m .y) (m .z) (now (b .entry)) (4 * n) i ⌝ }
+    ensures { λ r. ⌜ r ≡ wrongIn (m .w) (m .x) (m .y) (m .z) (m .k) (now (b .entry)) (4 * n) i ⌝ }
 {
     if i < 4 * n {
-        return b[i] >= bound(m, i % 4);
+        return over_bound(m, i % 4, b[i]);
     }
     set_at(b, i)
 }
 
-// The first wrong byte of a block, or 508.
+// The first wrong byte of a block, or 508. Used rows are passed over as long as none of their bytes is wrong.
 fn seek_wrong(b: &[u8], m: Bounds, n: usize) -> usize
-    requires { ⌜ (length (now b) ≡ 512) × (n ≤ 127) ⌝ }
-    ensures { λ r. ⌜ FirstIn (wrongIn (m .w) (m .x) (m .y) (m .z) (now (b .entry)) (4 * n)) 0 508 r ⌝ }
+    requires { ⌜ (length (now b) ≡ 512) × (n ≤ 127) × SmallBounds (m .w) (m .x) (m .y) (m .z) ⌝ }
+    ensures { λ r. ⌜ FirstIn (wrongIn (m .w) (m .x) (m .y) (m .z) (m .k) (now (b .entry)) (4 * n)) 0 508 r ⌝ }
 {
-    let mut i: usize = 0;
+    let mut i = 4 * rows_under(b, m, n);
     while i < 508 {
         if wrong_in(b, m, n, i) {
             return i;
@@ -75,14 +76,18 @@ fn fault_in_block(book: &[u8], s: usize, start: usize, q: usize) -> u64
     fault_number(book, s, start, q, i)
 }
 
-// The refusal for the first fault of the rows, or 0. The head is right, and the blocks that it needs are there.
+// The refusal for the first fault of the rows, or 0. The head is right, and the blocks that it needs are there. A right book without 255 is done where no
+// sheet is in doubt.
 pub fn first_fault(book: &[u8]) -> u64
     requires { ⌜ RightLength (now book) × RightHead (now book) × (blocksNeeded (now book) ≡ blockCount (now book)) ⌝ }
     ensures { λ r. ⌜ r ≡ faultNumber (firstFault (now (book .entry))) ⌝ }
 {
     let n = sheets(book);
-    let mut start: usize = 1;
-    let mut s: usize = 0;
+    let mut s = first_doubt(book);
+    if s == n {
+        return 0;
+    }
+    let mut start = first_block(book, s);
     while s < n {
         let blocks = blocks_of(book, s);
         let q = first_in_sheet(book, s, start);

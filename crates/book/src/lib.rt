@@ -4,7 +4,9 @@
 // one (specs/Decoding.antt). Blocks, checks and the head are those of crate heads.
 //
 //   row      the sheets' blocks: how many, and the first with a wrong byte
+//   doubt    a first look at them, which is enough for a right book without 255
 //   fault    that byte, and the refusal for it
+pub mod doubt;
 pub mod fault;
 pub mod row;
 

@@ -4,7 +4,7 @@ use mathlib.Core.Path.{_∙_, _≡_, ap, refl, sym}
 use mathlib.Core.Bool.{Bool, _&&_, _||_, false, false≢true, not, or-false, true}
 use mathlib.Core.Logic.{_⊎_, inl, inr, ⊎-elim}
 use mathlib.Core.List.{List, [], _∷_}
-use Prim.Native.Nat.{_*_, _+_, _-_, _/_, _<_, _^_, _≤_, suc, zero, ℕ}
+use Prim.Native.Nat.{_%_, _*_, _+_, _-_, _/_, _<_, _^_, _≤_, suc, zero, ℕ}
 use native.Mathlib.Nat.{div-le-self, lt-of-le-of-lt}
 use native.Mathlib.Omega.{arith}
 use lib.Arith.{lt-of-le-ne}
@@ -230,29 +230,25 @@ module _ (b : List ℕ) (begin w word : ℕ) (small : w < 8) (fits : word < 2 ^ 
         let z = sym (near-bits word k) ∙ e in
         let p = and-l (bit k word) _ z in
         let l = ltb-true k 60 (and-r (bit k word) _ z) in
-        record {
-          there = omega (arith, h .there k p, near-same begin w k 3 small l);
-          value = λ j q.
-              rw (near-same begin w k j small l) (h .value k j p q);
-        };
+        omega (arith, h .there k p, near-same begin w k 3 small l);
   }
 
-  to-far : (k j : ℕ) → bit k (bitAnd word ones60) ≡ true → byteAt b (nearPlace begin w + 4 * k + j) ≡ cellAt b begin (64 * w + k) j
+  to-far : (k j : ℕ) → bit k (bitAnd word ones60) ≡ true → byteAt b (nearPlace begin w + 4 * k + j) % 32 ≡ cellAt b begin (64 * w + k) j % 32
   to-far k j e =
       let l = ltb-true k 60 (and-r (bit k word) _ (sym (near-bits word k) ∙ e)) in
-      ap (byteAt b) (near-same begin w k j small l)
+      ap (λ (i : ℕ). byteAt b i % 32) (near-same begin w k j small l)
 
   pub gathered-near : {f g : List ℕ} → bitAnd word ones60 ≡ word
       → GatheredNear b (nearPlace begin w) (bitAnd word ones60) f g → Gathered b begin (64 * w) word f g
   gathered-near e h =
-      of-same (λ k j. cellAt b begin (64 * w + k) j) (λ k. ap (bit k) e)
-      (of-cells (λ k j. byteAt b (nearPlace begin w + 4 * k + j)) (λ k j. cellAt b begin (64 * w + k) j) to-far h)
+      of-same (λ k j. cellAt b begin (64 * w + k) j % 32) (λ k. ap (bit k) e)
+      (of-cells (λ k j. byteAt b (nearPlace begin w + 4 * k + j) % 32) (λ k j. cellAt b begin (64 * w + k) j % 32) to-far h)
 
   pub gathered-both : {f g h : List ℕ} → GatheredNear b (nearPlace begin w) (bitAnd word ones60) f g
       → Gathered b begin (64 * w) (bitAnd word (ones64 - ones60)) g h → Gathered b begin (64 * w) word f h
   gathered-both p q =
-      of-join (λ k j. cellAt b begin (64 * w + k) j) (λ k. both k (below k 64))
-      (of-cells (λ k j. byteAt b (nearPlace begin w + 4 * k + j)) (λ k j. cellAt b begin (64 * w + k) j) to-far p) q
+      of-join (λ k j. cellAt b begin (64 * w + k) j % 32) (λ k. both k (below k 64))
+      (of-cells (λ k j. byteAt b (nearPlace begin w + 4 * k + j) % 32) (λ k j. cellAt b begin (64 * w + k) j % 32) to-far p) q
     where
       both : (k : ℕ) → (k < 64) ⊎ (64 ≤ k)
           → bit k word ≡ (bit k (bitAnd word ones60) || bit k (bitAnd word (ones64 - ones60)))

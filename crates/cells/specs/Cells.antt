@@ -7,6 +7,7 @@ use Prim.Native.Nat.{_%_, _*_, _+_, _/_, _<_, _^_, ℕ}
 use lib.Bits.{bitOr}
 use lib.Dec.{ltb}
 use lib.ListN.{getD, length}
+use Rattle.model.specs.Books.{inDomain, isAny}
 use Rattle.model.specs.Masks.{bit}
 use Rattle.fields.specs.Bytes.{byteAt}
 
@@ -14,19 +15,35 @@ use Rattle.fields.specs.Bytes.{byteAt}
 abbrev pub cellPlace : ℕ → ℕ → ℕ → ℕ
 cellPlace begin r j = begin + 4 * (r + r / 127) + j
 
--- the value that stands there
+-- the cell that stands there
 abbrev pub cellAt : List ℕ → ℕ → ℕ → ℕ → ℕ
 cellAt b begin r j = byteAt b (cellPlace begin r j)
 
--- bit k of the word stands for row from + k. The rows of the word are there, and their bytes are values
+-- a cell is 255 or a value, which is below 32
+abbrev pub IsCell : ℕ → Type 0
+IsCell x = (isAny x ≡ true) ⊎ (x < 32)
+
+-- bit k of the word stands for row from + k. The rows of the word are there, and their bytes are cells
 pub record Readable (b : List ℕ) (begin from word : ℕ) : Type 0 where
   pub there : (k : ℕ) → bit k word ≡ true → cellPlace begin (from + k) 3 < length b
-  pub value : (k j : ℕ) → bit k word ≡ true → j < 4 → cellAt b begin (from + k) j < 32
+  pub cell : (k j : ℕ) → bit k word ≡ true → j < 4 → IsCell (cellAt b begin (from + k) j)
 
 -- ---- pass 1
--- r is the word cut to the rows whose value at place j is in d
+-- r is the word cut to the rows whose cell at place j is in d
 pub record Kept (b : List ℕ) (begin from j d word r : ℕ) : Type 0 where
-  pub at : (k : ℕ) → bit k r ≡ (bit k word && bit (cellAt b begin (from + k) j) d)
+  pub at : (k : ℕ) → bit k r ≡ (bit k word && inDomain (cellAt b begin (from + k) j) d)
+
+-- r is the word cut to the rows with 255 at place j
+pub record KeptAny (b : List ℕ) (begin from j word r : ℕ) : Type 0 where
+  pub at : (k : ℕ) → bit k r ≡ (bit k word && isAny (cellAt b begin (from + k) j))
+
+-- the 64 places m say of each cell x, at x % 64, whether it is in the domain d
+pub record WithAny (d m : ℕ) : Type 0 where
+  pub at : (x : ℕ) → IsCell x → bit (x % 64) m ≡ inDomain x d
+
+-- r is the word cut to the rows whose cell at place j is one of the places m
+pub record KeptBy (b : List ℕ) (begin from j m word r : ℕ) : Type 0 where
+  pub at : (k : ℕ) → bit k r ≡ (bit k word && bit (cellAt b begin (from + k) j % 64) m)
 
 -- where row 0 of word w stands; the first 60 rows of a word stand in one block, every 4 bytes from there
 abbrev pub nearPlace : ℕ → ℕ → ℕ
@@ -35,16 +52,15 @@ nearPlace begin w = begin + 4 * (64 * w + 64 * w / 127)
 -- the same of rows whose bytes stand at `base` and every 4 from there
 pub record NearReadable (b : List ℕ) (base word : ℕ) : Type 0 where
   pub there : (k : ℕ) → bit k word ≡ true → base + 4 * k < length b
-  pub value : (k : ℕ) → bit k word ≡ true → byteAt b (base + 4 * k) < 32
   pub few : (k : ℕ) → bit k word ≡ true → k < 60
 
--- r is the word cut to the rows whose byte there is in d
-pub record KeptNear (b : List ℕ) (base d word r : ℕ) : Type 0 where
-  pub at : (k : ℕ) → bit k r ≡ (bit k word && bit (byteAt b (base + 4 * k)) d)
+-- r is the word cut to the rows whose byte there is one of the places m
+pub record KeptNear (b : List ℕ) (base m word r : ℕ) : Type 0 where
+  pub at : (k : ℕ) → bit k r ≡ (bit k word && bit (byteAt b (base + 4 * k) % 64) m)
 
--- all 60 rows, set or not, by the last five bits of their bytes
-pub record AllNear (b : List ℕ) (base d r : ℕ) : Type 0 where
-  pub at : (k : ℕ) → k < 60 → bit k r ≡ bit (byteAt b (base + 4 * k) % 32) d
+-- all 60 rows, set or not
+pub record AllNear (b : List ℕ) (base m r : ℕ) : Type 0 where
+  pub at : (k : ℕ) → k < 60 → bit k r ≡ bit (byteAt b (base + 4 * k) % 64) m
 
 -- ---- pass 2
 -- a set for each of the four places
@@ -57,17 +73,17 @@ pub record GatheredOf (cell : ℕ → ℕ → ℕ) (passes : ℕ → Bool) (f g 
   pub new : (j k : ℕ) → j < 4 → passes k ≡ true → bit (cell k j) (getD g j 0) ≡ true
   pub sound : (j v : ℕ) → j < 4 → bit v (getD g j 0) ≡ true → (bit v (getD f j 0) ≡ true) ⊎ ((k : ℕ) × (passes k ≡ true) × (cell k j ≡ v))
 
--- the rows of a word
+-- the rows of a word, by the last five bits of their cells
 abbrev pub Gathered : List ℕ → ℕ → ℕ → ℕ → List ℕ → List ℕ → Type 0
-Gathered b begin from word f g = GatheredOf (λ k j. cellAt b begin (from + k) j) (λ k. bit k word) f g
+Gathered b begin from word f g = GatheredOf (λ k j. cellAt b begin (from + k) j % 32) (λ k. bit k word) f g
 
 -- the same of rows that stand at `base` and every 4 bytes from there
 abbrev pub GatheredNear : List ℕ → ℕ → ℕ → List ℕ → List ℕ → Type 0
-GatheredNear b base word f g = GatheredOf (λ k j. byteAt b (base + 4 * k + j)) (λ k. bit k word) f g
+GatheredNear b base word f g = GatheredOf (λ k j. byteAt b (base + 4 * k + j) % 32) (λ k. bit k word) f g
 
 -- the first n of them
 abbrev pub GatheredRun : List ℕ → ℕ → ℕ → List ℕ → List ℕ → Type 0
-GatheredRun b base n f g = GatheredOf (λ k j. byteAt b (base + 4 * k + j)) (λ k. ltb k n) f g
+GatheredRun b base n f g = GatheredOf (λ k j. byteAt b (base + 4 * k + j) % 32) (λ k. ltb k n) f g
 
 -- four sets of 32 bits
 pub record SmallSets (f : List ℕ) : Type 0 where
@@ -79,10 +95,9 @@ pub record Joined (f g h : List ℕ) : Type 0 where
   pub small : SmallSets h
   pub at : (j : ℕ) → j < 4 → getD h j 0 ≡ bitOr (getD f j 0) (getD g j 0)
 
--- the four bytes of a row are there, and are values
-pub record RowThere (b : List ℕ) (at : ℕ) : Type 0 where
-  pub there : at + 3 < length b
-  pub value : (j : ℕ) → j < 4 → byteAt b (at + j) < 32
+-- the four bytes of a row are there
+abbrev pub RowThere : List ℕ → ℕ → Type 0
+RowThere b at = at + 3 < length b
 
 -- the rows of the word stand at `base` and every 4 bytes from there
 pub record NearRows (b : List ℕ) (base word : ℕ) : Type 0 where

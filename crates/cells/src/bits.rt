@@ -30,12 +30,12 @@ pub fn others(x: u32) -> u32
     x & (x - 1)
 }
 
-// Whether value v is in d, as 0 or 1.
-pub fn has(d: u32, v: u32) -> u64
-    requires { ⌜ v < 32 ⌝ }
-    ensures { λ r. ⌜ (r ≡ d / 2 ^ v % 2) × (r < 2) ⌝ }
+// Whether place v of x is set, as 0 or 1.
+pub fn has(x: u64, v: u32) -> u64
+    requires { ⌜ v < 64 ⌝ }
+    ensures { λ r. ⌜ (r ≡ x / 2 ^ v % 2) × (r < 2) ⌝ }
 {
-    ((d >> v) % 2) as u64
+    (x >> v) % 2
 }
 
 // The value v alone.

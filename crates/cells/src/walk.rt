@@ -11,39 +11,57 @@ ghost use Prim.Native.Nat.{_+_, _*_, _/_, _%_, _^_, _<_, _≤_};
 ghost use lib.Bits.{bitOr};
 ghost use lib.ListN.{length};
 ghost use Rattle.fields.specs.Bytes.{byteAt};
-ghost use Rattle.cells.specs.Cells.{nearPlace, Readable, Kept, KeptNear, NearReadable, AllNear, fourOf, RowThere, NearRows, RunReadable, RunOf, PastRun, Gathered, GatheredNear, GatheredRun, SmallSets, Joined};
+ghost use Rattle.cells.specs.Cells.{nearPlace, Readable, WithAny, Kept, KeptAny, KeptBy, KeptNear, NearReadable, AllNear, fourOf, RowThere, NearRows, RunReadable, RunOf, PastRun, Gathered, GatheredNear, GatheredRun, SmallSets, Joined};
 
 // The first 60 rows of a word.
 const NEAR: u64 = 1152921504606846975;
 
-// ---- pass 1: the rows whose value at a place is in d
+// The place of 255: 255 % 64.
+const ANY: u64 = 9223372036854775808;
+
+// ---- pass 1: the rows whose cell at a place is in d
+//
+// A domain is lent as 64 places, and the cell x is looked up at place x % 64:
+//
+//     place   0 .. 31         32 .. 62    63
+//             the values      none        255: set where there is a value
+
+// The domain d with the place of 255.
+fn with_any(d: u32) -> u64
+    ensures { λ m. ⌜ WithAny d m ⌝ }
+{
+    if d == 0 {
+        return 0;
+    }
+    (d as u64) | ANY
+}
 
 // Rows that are set, one by one. Their bytes stand at `base` and every 4 from there.
-fn kept_near_set(book: &[u8], base: usize, d: u32, word: u64) -> u64
+fn kept_near_set(book: &[u8], base: usize, m: u64, word: u64) -> u64
     requires { ⌜ NearReadable (now book) base word ⌝ }
-    ensures { λ r. ⌜ KeptNear (now (book .entry)) base d word r ⌝ }
+    ensures { λ r. ⌜ KeptNear (now (book .entry)) base m word r ⌝ }
 {
     let mut left = word;
     let mut keep: u64 = 0;
     while left != 0 {
         let i = lowest(left);
-        let v = fields::wide32(book[base + 4 * (i as usize)]);
-        keep = keep | (has(d, v) << i);
+        let v = fields::wide32(book[base + 4 * (i as usize)]) % 64;
+        keep = keep | (has(m, v) << i);
         left = without_lowest(left);
     }
     keep
 }
 
 // All 60 rows, set or not, with no test.
-fn kept_near_all(book: &[u8], base: usize, d: u32) -> u64
+fn kept_near_all(book: &[u8], base: usize, m: u64) -> u64
     requires { ⌜ base + 236 < length (now book) ⌝ }
-    ensures { λ r. ⌜ AllNear (now (book .entry)) base d r ⌝ }
+    ensures { λ r. ⌜ AllNear (now (book .entry)) base m r ⌝ }
 {
     let mut keep: u64 = 0;
     let mut k: usize = 60;
     while 0 < k {
         k -= 1;
-        keep = keep + keep + has(d, fields::wide32(book[base + 4 * k]) % 32);
+        keep = keep + keep + has(m, fields::wide32(book[base + 4 * k]) % 64);
     }
     keep
 }
@@ -54,31 +72,46 @@ fn many(word: u64) -> bool {
 }
 
 // The first 60 rows.
-fn kept_near(book: &[u8], base: usize, d: u32, word: u64) -> u64
+fn kept_near(book: &[u8], base: usize, m: u64, word: u64) -> u64
     requires { ⌜ NearReadable (now book) base word × (base + 236 < length (now book)) ⌝ }
-    ensures { λ r. ⌜ KeptNear (now (book .entry)) base d word r ⌝ }
+    ensures { λ r. ⌜ KeptNear (now (book .entry)) base m word r ⌝ }
 {
     if many(word) {
-        return kept_near_all(book, base, d) & word;
+        return kept_near_all(book, base, m) & word;
     }
-    kept_near_set(book, base, d, word)
+    kept_near_set(book, base, m, word)
 }
 
 // Rows anywhere.
-fn kept_far(book: &[u8], begin: usize, from: usize, j: usize, d: u32, word: u64) -> u64
+fn kept_far(book: &[u8], begin: usize, from: usize, j: usize, m: u64, word: u64) -> u64
     requires { ⌜ (from ≤ 448) × (j < 4) × Readable (now book) begin from word ⌝ }
-    ensures { λ r. ⌜ Kept (now (book .entry)) begin from j d word r ⌝ }
+    ensures { λ r. ⌜ KeptBy (now (book .entry)) begin from j m word r ⌝ }
 {
     let mut left = word;
     let mut keep: u64 = 0;
     while left != 0 {
         let i = lowest(left);
         let r = from + (i as usize);
-        let v = fields::wide32(book[begin + 4 * (r + r / 127) + j]);
-        keep = keep | (has(d, v) << i);
+        let v = fields::wide32(book[begin + 4 * (r + r / 127) + j]) % 64;
+        keep = keep | (has(m, v) << i);
         left = without_lowest(left);
     }
     keep
+}
+
+// The rows of word w whose cell at place j is a place of m.
+fn kept_by(book: &[u8], begin: usize, w: usize, j: usize, m: u64, word: u64) -> u64
+    requires { ⌜ (w < 8) × (j < 4) × Readable (now book) begin (64 * w) word × (nearPlace begin w + 239 < length (now book)) ⌝ }
+    ensures { λ r. ⌜ KeptBy (now (book .entry)) begin (64 * w) j m word r ⌝ }
+{
+    let from = 64 * w;
+    let base = begin + 4 * (from + from / 127);
+    let near = word & NEAR;
+    let keep = kept_near(book, base + j, m, near);
+    if near == word {
+        return keep;
+    }
+    keep | kept_far(book, begin, from, j, m, word & !NEAR)
 }
 
 // Pass 1 over word w.
@@ -86,17 +119,18 @@ pub fn kept(book: &[u8], begin: usize, w: usize, j: usize, d: u32, word: u64) ->
     requires { ⌜ (w < 8) × (j < 4) × Readable (now book) begin (64 * w) word × (nearPlace begin w + 239 < length (now book)) ⌝ }
     ensures { λ r. ⌜ Kept (now (book .entry)) begin (64 * w) j d word r ⌝ }
 {
-    let from = 64 * w;
-    let base = begin + 4 * (from + from / 127);
-    let near = word & NEAR;
-    let keep = kept_near(book, base + j, d, near);
-    if near == word {
-        return keep;
-    }
-    keep | kept_far(book, begin, from, j, d, word & !NEAR)
+    kept_by(book, begin, w, j, with_any(d), word)
 }
 
-// ---- pass 2: the values at each of the four places
+// The rows of word w with 255 at place j.
+pub fn kept_any(book: &[u8], begin: usize, w: usize, j: usize, word: u64) -> u64
+    requires { ⌜ (w < 8) × (j < 4) × Readable (now book) begin (64 * w) word × (nearPlace begin w + 239 < length (now book)) ⌝ }
+    ensures { λ r. ⌜ KeptAny (now (book .entry)) begin (64 * w) j word r ⌝ }
+{
+    kept_by(book, begin, w, j, ANY, word)
+}
+
+// ---- pass 2: the values at each of the four places. Of the cell x this is x % 32: 255 gives 31, which such a row does carry
 
 // A set of values for each place, while the rows of one word are walked.
 pub struct Four {
@@ -106,10 +140,10 @@ pub struct Four {
     pub d: u32,
 }
 
-// The values of the row at byte `at`, added to the sets. They are below 32; that it is said again lets the compiler take all four at once.
+// The values of the row at byte `at`, added to the sets.
 fn with_row(book: &[u8], at: usize, f: Four) -> Four
     requires { ⌜ RowThere (now book) at ⌝ }
-    ensures { λ g. ⌜ (g .a ≡ bitOr (f .a) (2 ^ byteAt (now (book .entry)) (at + 0))) × (g .b ≡ bitOr (f .b) (2 ^ byteAt (now (book .entry)) (at + 1))) × (g .c ≡ bitOr (f .c) (2 ^ byteAt (now (book .entry)) (at + 2))) × (g .d ≡ bitOr (f .d) (2 ^ byteAt (now (book .entry)) (at + 3))) ⌝ }
+    ensures { λ g. ⌜ (g .a ≡ bitOr (f .a) (2 ^ (byteAt (now (book .entry)) (at + 0) % 32))) × (g .b ≡ bitOr (f .b) (2 ^ (byteAt (now (book .entry)) (at + 1) % 32))) × (g .c ≡ bitOr (f .c) (2 ^ (byteAt (now (book .entry)) (at + 2) % 32))) × (g .d ≡ bitOr (f .d) (2 ^ (byteAt (now (book .entry)) (at + 3) % 32))) ⌝ }
 {
     Four {
         a: f.a | only(fields::wide32(book[at]) % 32),

@@ -1,7 +1,7 @@
 -- Laws of the opening: every value and every row, before propagation. Assumes nothing.
 use mathlib.Core.Path.{_∙_, _≡_, ap, refl, subst, sym}
 use mathlib.Core.Bool.{_&&_, false, false≢true, true}
-use mathlib.Core.Logic.{_↔_, _⊎_, inl, inr}
+use mathlib.Core.Logic.{_↔_, _⊎_, inl, inr, ⊎-elim}
 use mathlib.Core.List.{List, []}
 use Prim.Native.Nat.{_%_, _*_, _+_, _-_, _/_, _<_, _^_, _≤_, suc, zero, ℕ}
 use native.Mathlib.Nat.{div-le-self, lt-of-le-of-lt, lt-of-lt-of-le}
@@ -11,16 +11,17 @@ use lib.ListN.{getD, length, length-replicate, length-set, replicate, set}
 use lib.Pow.{pow-mono}
 use lib.Seq.{ext-getD, getD-set-other, getD-set-same}
 use borrow.Author.Tests.{le-ltb, lt-ltb, ltb-true}
-use Rattle.model.specs.Books.{closure, columnCount, sheetAt}
+use Rattle.model.specs.Books.{closure, columnCount, inDomain, isAny, sheetAt}
 use Rattle.model.specs.Masks.{bit, maskOf}
 use Rattle.model.specs.Orders.{allowed, domains, permits}
 use Rattle.model.specs.States.{StateOf, ofSheet, validRow}
 use Rattle.model.specs.Stores.{has, storeOf}
+use Rattle.model.proofs.Books.{in-domain-i, matches-any, matches-self}
 use Rattle.model.proofs.Masks.{bit-maskOf, bit-maskOf-out, bit-of-zero, mask-ext, maskOf-lt, maskOf-same, ones32, ones64}
 use Rattle.model.proofs.Rows.{word-same}
 use Rattle.model.proofs.Tests.{and-true, below, getD-tab, length-tab, same-test}
 use Rattle.book.specs.Decoding.{bookOf}
-use Rattle.heads.specs.Heads.{columnOf, columnsOf, rowsOf, sheetsOf, valuesOf}
+use Rattle.heads.specs.Heads.{columnOf, columnsOf, rowsOf, sheetsOf, valuesOf, widthOf}
 use Rattle.book.specs.Verdicts.{Accepted}
 use Rattle.book.proofs.Decoding.{RightBook, accepted-right}
 use Rattle.heads.proofs.Heads.{column-inside, rows-most, sheets-most, values-range}
@@ -185,18 +186,27 @@ module _ (b : List ℕ) (acc : Accepted b) {D W X N : List ℕ} (hd : FullDomain
 
   -- every row is valid
   every-row : (s r : ℕ) → s < sheetsOf b → validRow D (sheetAt (bookOf b) s) r ≡ ltb r (rowsOf b s)
+  unfolding has
   every-row s r l =
       same-test _ _
       (λ e. lt-ltb r (rowsOf b s) (valid-e a D r e .0))
       (λ e.
       let n = ltb-true r (rowsOf b s) e in
       valid-i a D r n
-      (λ j k.
-      value-bit (columnOf b s j) (valueAt b s r j) (column-inside b (right .head) s l j k)
-      ∙ lt-ltb (valueAt b s r j) (valuesOf b (columnOf b s j)) (cell-value a r j n k)))
+      (λ j k. in-full j (valueAt b s r j) k (cell-value a r j n k)))
     where
       a : AtSheet b (firstByte b s) s
       a = at-sheet b acc s l
+
+      -- all values are there, and there is one
+      in-full : (j x : ℕ) → j < widthOf b s → (isAny x ≡ true) ⊎ (x < valuesOf b (columnOf b s j)) → inDomain x (getD D (columnOf b s j) 0) ≡ true
+      in-full j x k e =
+          let m = column-inside b (right .head) s l j k in
+          let has-value : (v : ℕ) → v < valuesOf b (columnOf b s j) → bit v (getD D (columnOf b s j) 0) ≡ true
+          = λ v q. value-bit (columnOf b s j) v m ∙ lt-ltb v (valuesOf b (columnOf b s j)) q in
+          ⊎-elim
+          (λ z. in-domain-i x _ 0 (matches-any x 0 z) (has-value 0 (values-range b (right .head) (columnOf b s j) m .0)))
+          (λ q. in-domain-i x _ x (matches-self x) (has-value x q)) e
 
   own : (s i : ℕ) → s < 8 → i < 8 → ofSheet X s i ≡ i
   own s i l m = let e : (8 * s + i) % 8 ≡ i = omega arith in hx .own (8 * s + i) (omega arith) ∙ e

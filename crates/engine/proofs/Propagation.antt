@@ -16,7 +16,7 @@ use Rattle.model.specs.Closure.{Between, Consistent}
 use Rattle.model.specs.Masks.{Cleared, bit}
 use Rattle.model.specs.States.{Indexed, StateOf, ofSheet, validRow, validWord}
 use Rattle.model.specs.Stores.{IsStore, Within, emptyStore, has, values}
-use Rattle.model.proofs.Books.{closed-or-empty, consistent-from, supported-mono, supportedIn-mono, supportedIn-same}
+use Rattle.model.proofs.Books.{closed-or-empty, consistent-from, in-domain-e, supported-mono, supportedIn-mono, supportedIn-same}
 use Rattle.model.proofs.Choices.{pick-same}
 use Rattle.model.proofs.Closure.{between-rest, between-strike, closure-store, closure-within}
 use Rattle.model.proofs.Masks.{bit-below, bit-of-zero, bit-or, mask-ext}
@@ -28,7 +28,7 @@ use Rattle.heads.specs.Heads.{columnOf, columnsOf, sheetsOf, valuesOf, widthOf}
 use Rattle.book.specs.Verdicts.{Accepted}
 use Rattle.book.proofs.Decoding.{RightBook, accepted-right, tab-mem}
 use Rattle.words.specs.Looks.{Revised, Seen, SheetKnown}
-use Rattle.words.specs.Sheets.{AtSheet, IndexOf, Loses, OnlySheet, Sized, firstByte, valueAt}
+use Rattle.words.specs.Sheets.{AtSheet, IndexOf, Loses, OnlySheet, Sized, firstByte}
 use Rattle.words.proofs.Places.{column-value, columns-size, formed, sheet-at, sheet-in, width-most, valid-e}
 use Rattle.engine.specs.Layouts.{LayoutOf}
 use Rattle.engine.specs.Propagation.{Fixpoint, Ready, closureIn, storeIn, Propagated}
@@ -163,7 +163,7 @@ module _ (b : List ℕ) (acc : Accepted b) where
   pub at-sheet : (s : ℕ) → s < sheetsOf b → AtSheet b (firstByte b s) s
   at-sheet s l = record { accepted = acc; one = l; begins = refl }
 
-  pub at-laid : {begins scopes : List ℕ} → LayoutOf b begins scopes → (s : ℕ) → s < sheetsOf b → AtSheet b (getD begins s 0) s
+  pub at-laid : {begins scopes shorts : List ℕ} → LayoutOf b begins scopes shorts → (s : ℕ) → s < sheetsOf b → AtSheet b (getD begins s 0) s
   at-laid h s l = record { accepted = acc; one = l; begins = h .starts s l }
 
   pub going-start : {opening : Bool} {waiting column : ℕ} {D W X N : List ℕ} → Ready b opening waiting column D W X N
@@ -197,7 +197,7 @@ module _ (b : List ℕ) (acc : Accepted b) where
       go s l e (inl p) (inr q) = h .quiet s l q .0
       go s l e (inl p) (inl q) = absurd (true≢false (sym (and-i p q) ∙ e))
 
-  module _ {opening : Bool} {D₀ D W X N G M begins : List ℕ} {left : ℕ} (lay : LayoutOf b begins M) (h : Going b opening D₀ D W X N G left) where
+  module _ {opening : Bool} {D₀ D W X N G M begins shorts : List ℕ} {left : ℕ} (lay : LayoutOf b begins M shorts) (h : Going b opening D₀ D W X N G left) where
     -- ---- one turn: sheet s has been looked at
     module _ {s lost : ℕ} {satisfied : Bool} {D′ W′ X′ N′ : List ℕ} (waits : bit s left ≡ true) (r : Revised b s D W X N D′ W′ X′ N′ satisfied lost) where
       one : s < sheetsOf b
@@ -418,6 +418,7 @@ module _ (b : List ℕ) (acc : Accepted b) where
       none v (inr e) = e ∙ sym (bit-of-zero v)
 
   no-row : (s w : ℕ) → s < sheetsOf b → 0 ≡ validWord (emptyStore C) (sheetAt (bookOf b) s) w
+  unfolding has
   no-row s w l =
       word-same (emptyStore C) (sheetAt (bookOf b) s) w 0 (omega arith)
       (λ k m. bit-of-zero k ∙ sym (none (64 * w + k) (either (validRow (emptyStore C) (sheetAt (bookOf b) s) (64 * w + k)))))
@@ -426,7 +427,8 @@ module _ (b : List ℕ) (acc : Accepted b) where
           → validRow (emptyStore C) (sheetAt (bookOf b) s) r ≡ false
       none r (inl e) =
           let a = at-sheet b acc s l in
-          absurd (empty-has C (columnOf b s 0) (valueAt b s r 0) (valid-e a (emptyStore C) r e .1 0 (width-most a .0)))
+          let v = in-domain-e _ _ (valid-e a (emptyStore C) r e .1 0 (width-most a .0)) in
+          absurd (empty-has C (columnOf b s 0) (v .0) (v .1))
       none r (inr e) = e
 
   -- the index of any state serves

@@ -147,7 +147,7 @@ module _ (b : List ℕ) (acc : Accepted b) (L : List Entry) {D W X N : List ℕ}
               empty-entry : (k : ℕ) → getD (emptyStore (columnCount bk)) k 0 ≡ 0
               empty-entry k = no-value b acc k
 
-      pub narrow-ready : {begins M : List ℕ} → LayoutOf b begins M → {waiting : ℕ} → WaitingFor M ((1 * 2 ^ c) % 2 ^ 32) 8 waiting
+      pub narrow-ready : {begins M S : List ℕ} → LayoutOf b begins M S → {waiting : ℕ} → WaitingFor M ((1 * 2 ^ c) % 2 ^ 32) 8 waiting
           → Ready b false waiting ((1 * 2 ^ c) % 2 ^ 32) (meet D c m) W X N
       unfolding has supported
       narrow-ready {begins} {M} lay {waiting} w = record {

@@ -15,19 +15,19 @@ use lib.Pow.{pow-lt}
 use lib.Seq.{getD-set-other, getD-set-same}
 use borrow.Author.Tests.{eqb-false, eqb-true, le-ltb, lt-ltb, not-false}
 use Rattle.model.specs.Masks.{bit}
-use Rattle.model.proofs.Masks.{bit-and, bit-of-zero, bit-or, bit-pow, bit-pow-only, bit-pow-other, mask-ext, ones32}
-use Rattle.model.proofs.Tests.{and-false, and-i, and-true, below, either, or-e, or-l, or-r}
+use Rattle.model.proofs.Masks.{bit-and, bit-of-zero, bit-or, bit-pow, bit-pow-other, mask-ext, ones32}
+use Rattle.model.proofs.Tests.{and-false, and-i, and-true, below, either}
 use Rattle.heads.specs.Heads.{columnOf, columnsOf, rowsOf, sheetsOf, valuesOf, widthOf}
 use Rattle.book.specs.Rows.{blocksNeeded, blocksOf}
 use Rattle.book.specs.Verdicts.{Accepted}
 use Rattle.book.proofs.Decoding.{accepted-right}
-use Rattle.book.proofs.Rows.{firstBlock-later, firstBlock-more, firstBlock-zero}
+use Rattle.book.proofs.Rows.{firstBlock-later}
 use Rattle.book.proofs.Verdicts.{right-length}
 use Rattle.heads.proofs.Heads.{columns-range, rows-most, sheets-most, values-range}
 use Rattle.words.specs.Sheets.{firstByte}
 use Rattle.cells.proofs.Ones.{complement}
 use Rattle.cells.proofs.Walks.{shifted-one}
-use Rattle.engine.specs.Layouts.{ColumnsIn, LayoutOf}
+use Rattle.engine.specs.Layouts.{LayoutOf}
 use Rattle.engine.specs.Worklists.{Added, WaitingFor, Woken, touches, waitsBit}
 
 module _ (b : List ℕ) (acc : Accepted b) where
@@ -47,101 +47,22 @@ module _ (b : List ℕ) (acc : Accepted b) where
   rows-few s l = rows-most b (accepted-right b acc .head) s l
 
   -- the rows of a sheet end within the file
-  pub rows-end : (s : ℕ) → s < sheetsOf b → firstByte b s + 512 * blocksOf b s ≤ 16896
+  pub rows-there : (s : ℕ) → s < sheetsOf b → firstByte b s + 512 * blocksOf b s ≤ length b
   unfolding blocksNeeded
-  rows-end s l =
+  rows-there s l =
       let h = accepted-right b acc in
       omega (arith, right-length b (h .length-right), h .blocks, firstBlock-later b s (sheetsOf b) l)
 
-  pub next-byte : (s : ℕ) → firstByte b (s + 1) ≡ firstByte b s + 512 * blocksOf b s
-  next-byte s = omega (arith, firstBlock-more b s)
+  pub rows-end : (s : ℕ) → s < sheetsOf b → firstByte b s + 512 * blocksOf b s ≤ 16896
+  rows-end s l = omega (arith, right-length b (accepted-right b acc .length-right), rows-there s l)
 
-  pub first-byte : firstByte b 0 ≡ 512
-  first-byte = omega (arith, firstBlock-zero b)
-
--- ---- the columns of a sheet
-
-pub record ColumnsTo (b : List ℕ) (s n m : ℕ) : Type 0 where
-  pub all : (j : ℕ) → j < n → bit (columnOf b s j) m ≡ true
-  pub only : (c : ℕ) → bit c m ≡ true → (j : ℕ) × (j < n) × (columnOf b s j ≡ c)
-
-pub columns-none : (b : List ℕ) (s : ℕ) → ColumnsTo b s 0 0
-columns-none b s = record { all = λ j l. absurd (omega arith); only = λ c e. absurd (false≢true (sym (bit-of-zero c) ∙ e)) }
-
-pub columns-more : {b : List ℕ} {s n m c : ℕ} → ColumnsTo b s n m → c ≡ columnOf b s n → c < 32 → ColumnsTo b s (n + 1) (bitOr m ((1 * 2 ^ c) % 2 ^ 32))
-columns-more {b} {s} {n} {m} {c} h e l =
-    record {
-      all = λ j k. into (columnOf b s j) (here j (below j n) k);
-      only = λ k f. from k (or-e (bit k m) _ (sym (bit-or k m _) ∙ f));
-    }
-  where
-    one : (1 * 2 ^ c) % 2 ^ 32 ≡ 2 ^ c
-    one = shifted-one 32 c l
-
-    into : (k : ℕ) → (bit k m || bit k ((1 * 2 ^ c) % 2 ^ 32)) ≡ true → bit k (bitOr m ((1 * 2 ^ c) % 2 ^ 32)) ≡ true
-    into k f = bit-or k m _ ∙ f
-
-    here : (j : ℕ) → (j < n) ⊎ (n ≤ j) → j < n + 1 → (bit (columnOf b s j) m || bit (columnOf b s j) ((1 * 2 ^ c) % 2 ^ 32)) ≡ true
-    here j (inl p) k = or-l (bit (columnOf b s j) m) _ (h .all j p)
-    here j (inr p) k =
-        let z : j ≡ n = omega arith in or-r (bit (columnOf b s j) m) _ (rw (z, ← e, one) (bit-pow c))
-
-    from : (k : ℕ) → (bit k m ≡ true) ⊎ (bit k ((1 * 2 ^ c) % 2 ^ 32) ≡ true) → (j : ℕ) × (j < n + 1) × (columnOf b s j ≡ k)
-    from k (inl f) = let r = h .only k f in (r .0, omega (arith, r .1), r .2)
-    from k (inr f) = (n, omega arith, sym e ∙ sym (bit-pow-only c k (rw one at f)))
-
-pub columns-end : {b : List ℕ} {s n m : ℕ} → n ≡ widthOf b s → ColumnsTo b s n m → ColumnsIn b s m
-columns-end e h =
-    record { all = λ j l. h .all j (omega arith); only = λ c f. let r = h .only c f in (r .0, omega (arith, r .1), r .2) }
-
--- ---- the layout, sheet by sheet
-pub record LaidTo (b : List ℕ) (n : ℕ) (begins scopes : List ℕ) : Type 0 where
-  pub begins-size : length begins ≡ 8
-  pub scopes-size : length scopes ≡ 8
-  pub starts : (s : ℕ) → s < n → getD begins s 0 ≡ firstByte b s
-  pub columns : (s : ℕ) → s < n → ColumnsIn b s (getD scopes s 0)
-  pub past : (s : ℕ) → n ≤ s → getD scopes s 0 ≡ 0
-
+-- a list of zeros
 pub zeros-at : (n c : ℕ) → _≡_ {A = ℕ} (getD (replicate n 0) c 0) 0
 zeros-at n c = go (below c n)
   where
     go : (c < n) ⊎ (n ≤ c) → _≡_ {A = ℕ} (getD (replicate n 0) c 0) 0
     go (inl l) = getD-replicate n c 0 0 l
     go (inr l) = List·getD-eq-default (replicate n 0) 0 (omega (arith, length-replicate {A = ℕ} n 0))
-
-pub laid-none : (b : List ℕ) {begins scopes : List ℕ} → begins ≡ replicate 8 0 → scopes ≡ replicate 8 0 → LaidTo b 0 begins scopes
-laid-none b {begins} {scopes} e f =
-    record {
-      begins-size = ap (λ (l : List ℕ). length l) e ∙ length-replicate {A = ℕ} 8 0;
-      scopes-size = ap (λ (l : List ℕ). length l) f ∙ length-replicate {A = ℕ} 8 0;
-      starts = λ s l. absurd (omega arith);
-      columns = λ s l. absurd (omega arith);
-      past = λ s l. ap (λ (l : List ℕ). getD l s 0) f ∙ zeros-at 8 s;
-    }
-
-pub laid-more : {b : List ℕ} {n at m : ℕ} {begins scopes : List ℕ} → LaidTo b n begins scopes → n < 8 → at ≡ firstByte b n → ColumnsIn b n m
-    → LaidTo b (n + 1) (set begins n at) (set scopes n m)
-laid-more {b} {n} {at} {m} {begins} {scopes} h l e k =
-    record {
-      begins-size = length-set begins n at ∙ h .begins-size;
-      scopes-size = length-set scopes n m ∙ h .scopes-size;
-      starts = λ s q. starts s (below s n) q;
-      columns = λ s q. columns s (below s n) q;
-      past = λ s q. getD-set-other scopes n s m 0 (λ z. omega arith) ∙ h .past s (omega arith);
-    }
-  where
-    starts : (s : ℕ) → (s < n) ⊎ (n ≤ s) → s < n + 1 → getD (set begins n at) s 0 ≡ firstByte b s
-    starts s (inl p) q = getD-set-other begins n s at 0 (λ z. omega arith) ∙ h .starts s p
-    starts s (inr p) q =
-        let z : s ≡ n = omega arith in rw z (getD-set-same begins n at 0 (omega (arith, h .begins-size)) ∙ e)
-
-    columns : (s : ℕ) → (s < n) ⊎ (n ≤ s) → s < n + 1 → ColumnsIn b s (getD (set scopes n m) s 0)
-    columns s (inl p) q = rw (getD-set-other scopes n s m 0 (λ z. omega arith)) (h .columns s p)
-    columns s (inr p) q = let z : s ≡ n = omega arith in rw (z, getD-set-same scopes n m 0 (omega (arith, h .scopes-size))) k
-
-pub laid-end : {b : List ℕ} {n : ℕ} {begins scopes : List ℕ} → Accepted b → n ≡ sheetsOf b → LaidTo b n begins scopes → LayoutOf b begins scopes
-laid-end acc e h =
-    record { accepted = acc; starts = λ s l. h .starts s (omega arith); columns = λ s l. h .columns s (omega arith); past = λ s l. h .past s (omega arith) }
 
 -- another number than n is below n + 1 exactly when it is below n
 ltb-next : (f n : ℕ) → (f ≡ n → ⊥) → ltb f n ≡ ltb f (n + 1)
@@ -250,7 +171,7 @@ woken-same {M} {G} {G′} {s} {lost} {waiting} {waiting′} h l e =
 -- ---- sheets that a set of columns touches
 -- a sheet with a column in `lost` is one of the book's
 
-pub touched-sheet : {b begins M : List ℕ} → LayoutOf b begins M → (s lost : ℕ) → touches (getD M s 0) lost ≡ true → s < sheetsOf b
+pub touched-sheet : {b begins M S : List ℕ} → LayoutOf b begins M S → (s lost : ℕ) → touches (getD M s 0) lost ≡ true → s < sheetsOf b
 unfolding touches
 touched-sheet {b} {begins} {M} lay s lost f = go (below s (sheetsOf b))
   where
@@ -260,7 +181,7 @@ touched-sheet {b} {begins} {M} lay s lost f = go (below s (sheetsOf b))
         absurd (false≢true (sym (ap (λ (x : ℕ). touches x lost) (lay .past s l) ∙ ap (λ (x : ℕ). not (eqb x 0)) (and-zero-l lost)) ∙ f))
 
 -- one without has none of its columns in it
-pub untouched-column : {b begins M : List ℕ} → LayoutOf b begins M → (s lost j : ℕ) → s < sheetsOf b → j < widthOf b s
+pub untouched-column : {b begins M S : List ℕ} → LayoutOf b begins M S → (s lost j : ℕ) → s < sheetsOf b → j < widthOf b s
     → touches (getD M s 0) lost ≡ false → bit (columnOf b s j) lost ≡ false
 unfolding touches
 untouched-column {b} {begins} {M} lay s lost j l m f = go (either (bit (columnOf b s j) lost))

@@ -12,6 +12,7 @@ pub fn fixpoint(
     book: &[u8],
     begins: &[usize; 8],
     scopes: &[u32; 8],
+    shorts: &[u32; 8],
     waiting: u32,
     column: u32,
     opening: bool,
@@ -20,7 +21,7 @@ pub fn fixpoint(
     index: &mut [u8; 64],
     nonzero: &mut [u8; 8],
 ) -> bool
-    requires { ⌜ LayoutOf (now book) (now begins) (now scopes) × Ready (now book) opening waiting column (now dom) (now valid) (now index) (now nonzero) ⌝ }
+    requires { ⌜ LayoutOf (now book) (now begins) (now scopes) (now shorts) × Ready (now book) opening waiting column (now dom) (now valid) (now index) (now nonzero) ⌝ }
     ensures { λ r. ⌜ Fixpoint (now (book .entry)) (now (dom .entry)) (now (dom .exit)) (now (valid .exit)) (now (index .exit)) (now (nonzero .exit)) r ⌝ }
 {
     let mut changed = [column; 8];
@@ -33,6 +34,7 @@ pub fn fixpoint(
             book,
             begins[s],
             s,
+            shorts[s],
             seen,
             opening,
             dom,
@@ -68,6 +70,7 @@ pub fn propagate(
     book: &[u8],
     begins: &[usize; 8],
     scopes: &[u32; 8],
+    shorts: &[u32; 8],
     waiting: u32,
     column: u32,
     opening: bool,
@@ -76,13 +79,14 @@ pub fn propagate(
     index: &mut [u8; 64],
     nonzero: &mut [u8; 8],
 )
-    requires { ⌜ LayoutOf (now book) (now begins) (now scopes) × Ready (now book) opening waiting column (now dom) (now valid) (now index) (now nonzero) ⌝ }
+    requires { ⌜ LayoutOf (now book) (now begins) (now scopes) (now shorts) × Ready (now book) opening waiting column (now dom) (now valid) (now index) (now nonzero) ⌝ }
     ensures { λ r. ⌜ Propagated (now (book .entry)) (now (dom .entry)) (now (dom .exit)) (now (valid .exit)) (now (index .exit)) (now (nonzero .exit)) ⌝ }
 {
     if fixpoint(
         book,
         begins,
         scopes,
+        shorts,
         waiting,
         column,
         opening,

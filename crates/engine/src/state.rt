@@ -8,7 +8,8 @@
 // Always: the domains are the closure of what the trail allows; a row is set exactly when it is valid in them; position i of a sheet's index
 // is below `nonzero` exactly when the word that it names is not zero. In a failed state all domains and words are zero.
 //
-// Arguments `begins` and `scopes` are the book's layout (layout.rt): the byte where each sheet's rows begin, and each sheet's columns as a mask.
+// Arguments `begins`, `scopes` and `shorts` are the book's layout (layout.rt): the byte where each sheet's rows begin, its columns as a mask, and the
+// places at which a row of it has 255.
 use crate::propagate::*;
 use crate::worklist::*;
 ghost use mathlib.Core.Path.{_≡_};
@@ -111,8 +112,8 @@ fn fill_index(index: &mut [u8; 64])
 }
 
 // The state of the empty trail.
-pub fn opening(book: &[u8], begins: &[usize; 8], scopes: &[u32; 8]) -> State
-    requires { ⌜ LayoutOf (now book) (now begins) (now scopes) ⌝ }
+pub fn opening(book: &[u8], begins: &[usize; 8], scopes: &[u32; 8], shorts: &[u32; 8]) -> State
+    requires { ⌜ LayoutOf (now book) (now begins) (now scopes) (now shorts) ⌝ }
     ensures { λ r. ⌜ StateIs (now (book .entry)) [] r ⌝ }
 {
     let mut dom = [0u32; 16];
@@ -127,6 +128,7 @@ pub fn opening(book: &[u8], begins: &[usize; 8], scopes: &[u32; 8]) -> State
         book,
         begins,
         scopes,
+        shorts,
         waiting,
         0,
         true,
@@ -163,10 +165,11 @@ impl State {
         book: &[u8],
         begins: &[usize; 8],
         scopes: &[u32; 8],
+        shorts: &[u32; 8],
         c: usize,
         m: u32,
     ) -> State
-        requires { ⌜ LayoutOf (now book) (now begins) (now scopes) × (c < columnsOf (now book)) × SomeState (now book) self × (0 < bitAnd (getD (self .dom) c 0) m) ⌝ }
+        requires { ⌜ LayoutOf (now book) (now begins) (now scopes) (now shorts) × (c < columnsOf (now book)) × SomeState (now book) self × (0 < bitAnd (getD (self .dom) c 0) m) ⌝ }
         ensures { λ r. ⌜ Narrows (now (book .entry)) c m self r ⌝ }
     {
         let mut dom = self.dom;
@@ -180,6 +183,7 @@ impl State {
             book,
             begins,
             scopes,
+            shorts,
             waiting_for(scopes, column),
             column,
             false,
@@ -202,10 +206,11 @@ impl State {
         book: &[u8],
         begins: &[usize; 8],
         scopes: &[u32; 8],
+        shorts: &[u32; 8],
         c: usize,
         m: u32,
     ) -> State
-        requires { ⌜ LayoutOf (now book) (now begins) (now scopes) × (c < columnsOf (now book)) × SomeState (now book) self ⌝ }
+        requires { ⌜ LayoutOf (now book) (now begins) (now scopes) (now shorts) × (c < columnsOf (now book)) × SomeState (now book) self ⌝ }
         ensures { λ r. ⌜ Narrows (now (book .entry)) c m self r ⌝ }
     {
         let dom = self.dom;
@@ -217,6 +222,6 @@ impl State {
         if e == 0 {
             return self.failed();
         }
-        self.propagated(book, begins, scopes, c, m)
+        self.propagated(book, begins, scopes, shorts, c, m)
     }
 }

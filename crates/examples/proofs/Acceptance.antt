@@ -1,10 +1,17 @@
 -- The worked examples of the calls, by computation. Assumes nothing.
-use mathlib.Core.Path.{refl}
+use mathlib.Core.Path.{_∙_, _≡_, ap, refl, sym}
+use native.Mathlib.Omega.{arith}
+use Rattle.model.specs.Acceptance.{HA}
 use Rattle.model.specs.Answers.{allBytes, domainBytes}
-use Rattle.model.proofs.Acceptance.{computing as orders-computing}
-use Rattle.book.proofs.Acceptance.{computing}
+use Rattle.model.specs.WrittenOut.{writtenOut}
+use Rattle.model.proofs.Acceptance.{writtenOutFacts, computing as orders-computing}
+use Rattle.book.specs.Acceptance.{harbour}
+use Rattle.book.specs.Decoding.{bookOf}
+use Rattle.book.specs.Verdicts.{checkResult}
+use Rattle.book.proofs.Acceptance.{computing, harbourFacts}
+use Rattle.promises.proofs.Twins.{writtenOutRuns}
 use Rattle.runs.specs.Results.{runRefusal, runResult, runSpace, wrongList}
-use Rattle.examples.specs.Acceptance.{CheckFacts, FaultFacts, RowCheckFacts, RunFacts}
+use Rattle.examples.specs.Acceptance.{AnyBoardFacts, CheckFacts, FaultFacts, RowCheckFacts, RunFacts, anyBoard}
 
 pub checkFacts : CheckFacts
 unfolding computing
@@ -34,6 +41,22 @@ faultFacts = record {
   unused-end = refl;
   second-value = refl;
   second-unused = refl;
+}
+
+any-accepted : checkResult anyBoard ≡ 50
+unfolding computing
+any-accepted = refl
+
+any-stands-for : bookOf anyBoard ≡ HA
+unfolding computing
+any-stands-for = refl
+
+pub anyBoardFacts : AnyBoardFacts
+anyBoardFacts = record {
+  accepted = any-accepted;
+  stands-for = any-stands-for;
+  runs = writtenOutRuns anyBoard harbour (rw any-accepted (omega arith)) (rw (checkFacts .harbour-accepted) (omega arith))
+      (harbourFacts .book ∙ sym (writtenOutFacts .harbour) ∙ ap writtenOut (sym any-stands-for));
 }
 
 pub runFacts : RunFacts

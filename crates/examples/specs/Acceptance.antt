@@ -1,15 +1,18 @@
--- What `fitting_check` and `fitting_run` give on worked examples: harbour book H, each refusal with a place, and whole runs over a book of one
--- column with one value. Proved in proofs/Acceptance.antt.
+-- What `fitting_check` and `fitting_run` give on worked examples: harbour book H, also with a short row, each refusal with a place, and whole runs
+-- over a book of one column with one value. Proved in proofs/Acceptance.antt.
 use mathlib.Core.Path.{_≡_}
 use mathlib.Core.Bool.{false, true}
 use mathlib.Core.List.{List, [], _++_, _∷_}
 use Prim.Native.Nat.{ℕ}
 use lib.ListN.{replicate, set, take}
-use Rattle.heads.specs.Acceptance.{padded}
-use Rattle.book.specs.Acceptance.{both, bothHead, bothRows, harbour, longRows, sealed, tiny, tinyHead}
+use Rattle.model.specs.Acceptance.{HA}
+use Rattle.heads.specs.Acceptance.{head, padded}
+use Rattle.book.specs.Acceptance.{both, bothHead, bothRows, harbour, longRows, rows0, sealed, tiny, tinyHead}
+use Rattle.book.specs.Decoding.{bookOf}
 use Rattle.book.specs.Rows.{fault, firstFault, notZero, tooLarge}
 use Rattle.book.specs.Verdicts.{checkResult, refused}
 use Rattle.runs.specs.Results.{runRefusal, runResult, runSpace, wrongList}
+use Rattle.promises.specs.Twins.{TwinRuns}
 
 pub record CheckFacts : Type 0 where
   -- "Accepted: C × 16 + S."
@@ -38,6 +41,17 @@ pub record FaultFacts : Type 0 where
   pub unused-end : firstFault (both (set bothRows 507 1)) ≡ fault 1019 notZero
   pub second-value : firstFault (longRows 2) ≡ fault 1024 tooLarge
   pub second-unused : firstFault (longRows 1) ≡ fault 1028 notZero
+
+-- ---- "Any board" in one row: H as bytes, with one row for motor 0 and any board in place of a row for each board (HA: model, Acceptance)
+abbrev pub anyBoard : List ℕ
+anyBoard = sealed 0 (set head 38 2 ∷ rows0 ∷ (0 ∷ 255 ∷ 0 ∷ 0 ∷ 1 ∷ 1 ∷ 0 ∷ 0 ∷ []) ∷ [])
+
+pub record AnyBoardFacts : Type 0 where
+  -- "Refusal 5 lets 255 pass."
+  pub accepted : checkResult anyBoard ≡ 50
+  pub stands-for : bookOf anyBoard ≡ HA
+  -- "What a buyer sees of an accepted book must equal a book with such rows written out": that is H
+  pub runs : TwinRuns anyBoard harbour
 
 -- a mark, a narrow of column 0 to no value, an order of no kind
 abbrev pub threeOrders : List ℕ

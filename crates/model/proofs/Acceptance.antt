@@ -1,20 +1,22 @@
 -- Document 01's examples, by computation. Assumes nothing.
 use mathlib.Core.Path.{refl}
+use mathlib.Core.List.{flatMap}
 use Rattle.model.specs.Tests.{allBelow, anyBelow, allIn, anyIn, sum, count, lowest, eqList, tab}
 use Rattle.model.specs.Masks.{bit, maskOf}
 use Rattle.model.specs.Stores.{has, storeOf, emptyStore, allFilled, values}
 use Rattle.model.specs.Closure.{strike, rounds, closureOf}
 use Rattle.model.specs.Choices.{firstOf, firstChoice, anyChoice}
-use Rattle.model.specs.Books.{rowMatches, allows, supports, supportedIn, supported, closure}
+use Rattle.model.specs.Books.{inDomain, rowMatches, allows, supports, supportedIn, supported, closure}
 use Rattle.model.specs.Solutions.{formsRows, firstSolution}
 use Rattle.model.specs.Search.{openColumn, valueOf, searchFrom, searchSolution}
 use Rattle.model.specs.Orders.{wrongPlace, someWrong, depth, before, firstCause, outside, refusal, push, trailFrom, permits, allowed, domains}
 use Rattle.model.specs.Answers.{assigned, statusOf, subsumed, doneOf, outcome, showing, answer, answersFrom, lastFrom, acceptedFrom, domainBytes, answerBytes}
-use Rattle.model.specs.Acceptance.{TenFacts, SevenLines, SearchFacts, RefusalFacts, ByteFacts, MayDiffer}
+use Rattle.model.specs.WrittenOut.{writtenCell, writtenRow, writtenSheet, writtenOut}
+use Rattle.model.specs.Acceptance.{TenFacts, SevenLines, SearchFacts, RefusalFacts, ByteFacts, WrittenOutFacts, MayDiffer}
 
 -- opens every definition that an example computes with
 unfoldable pub computing : Unit {0}
-unfolding lowest allBelow anyBelow allIn anyIn sum count eqList tab bit maskOf has storeOf emptyStore allFilled values strike rounds closureOf firstOf firstChoice anyChoice rowMatches allows supports supportedIn supported closure formsRows firstSolution wrongPlace someWrong depth before firstCause outside refusal push trailFrom permits allowed domains assigned statusOf subsumed doneOf outcome showing answer answersFrom lastFrom acceptedFrom answerBytes openColumn valueOf searchFrom searchSolution
+unfolding lowest allBelow anyBelow allIn anyIn sum count eqList tab bit maskOf has storeOf emptyStore allFilled values strike rounds closureOf firstOf firstChoice anyChoice inDomain rowMatches allows supports supportedIn supported closure formsRows firstSolution wrongPlace someWrong depth before firstCause outside refusal push trailFrom permits allowed domains assigned statusOf subsumed doneOf outcome showing answer answersFrom lastFrom acceptedFrom answerBytes openColumn valueOf searchFrom searchSolution
 computing = tt
 
 pub tenFacts : TenFacts
@@ -74,6 +76,10 @@ refusalFacts =
 pub byteFacts : ByteFacts
 unfolding computing domainBytes
 byteFacts = record { narrow-bytes = refl; finish-bytes = refl }
+
+pub writtenOutFacts : WrittenOutFacts
+unfolding tab flatMap writtenCell writtenRow writtenSheet writtenOut
+writtenOutFacts = record { one = refl; two = refl; harbour = refl }
 
 pub mayDiffer : MayDiffer
 unfolding computing

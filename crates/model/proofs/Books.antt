@@ -1,22 +1,24 @@
 -- Laws of books: the support test says what document 01 says, so a value stays exactly when a consistent store within holds it.
 -- But for `allows-e`, `allows-i` and what cites them, none of them looks into `allows`. Assumes nothing.
-use mathlib.Core.Path.{_≡_, refl, sym, ap, ap₂, _∙_, subst}
-use mathlib.Core.Bool.{true, false, not, _&&_, _||_, false≢true, true≢false}
+use mathlib.Core.Path.{_≡_, refl, sym, ap, _∙_, subst}
+use mathlib.Core.Bool.{true, false, cond, not, _&&_, _||_, false≢true, true≢false}
 use mathlib.Core.Logic.{_⊎_, inl, inr, _↔_}
-use mathlib.Core.List.{List, [], _∷_, List·Memᴰ, Memᴰ·cast, List·Memᴰ·not-nil}
+use mathlib.Core.List.{List, [], _∷_, List·Memᴰ, List·Memᴰ·not-nil}
 use Prim.Native.Nat.{ℕ, zero, suc, _^_, _≤_, _<_}
 use native.Mathlib.Nat.{not-suc-le-zero, le-of-suc-le-suc, zero-lt-suc}
 use native.Mathlib.Omega.{arith}
-use lib.Dec.{eqb}
+use lib.Dec.{eqb, ltb}
 use lib.ListN.{length, getD}
-use borrow.Author.Tests.{eqb-true, eq-eqb, not-true}
+use lib.Pow.{pow-pos}
+use borrow.Author.Tests.{eqb-true, eq-eqb, lt-ltb, ltb-true, not-true}
 use Rattle.model.specs.Tests.{anyIn}
+use Rattle.model.specs.Masks.{bit}
 use Rattle.model.specs.Stores.{has, Within, IsStore, storeOf, emptyStore}
 use Rattle.model.specs.Closure.{Monotone, Consistent, closureOf}
 use Rattle.model.specs.Choices.{pick, anyChoice}
-use Rattle.model.specs.Books.{Sheet, Book, columnCount, matches, rowMatches, allows, WellFormedSheet, WellFormed, Support, ConsistentStore, Stays, Fails, supports, supportedIn, supported, closure}
-use Rattle.model.proofs.Tests.{and-l, and-r, and-i, or-e, or-l, or-r, either, allIn-mono, allIn-e, allIn-i, anyIn-e, anyIn-i, below}
-use Rattle.model.proofs.Masks.{bit-pow, bit-pow-only}
+use Rattle.model.specs.Books.{Sheet, Book, columnCount, inDomain, isAny, matches, rowMatches, allows, WellFormedSheet, WellFormed, Support, ConsistentStore, Stays, Fails, supports, supportedIn, supported, closure}
+use Rattle.model.proofs.Tests.{and-l, and-r, and-i, or-e, or-l, or-r, either, allIn-mono, allIn-e, allIn-i, anyIn-e, anyIn-i, below, positive}
+use Rattle.model.proofs.Masks.{bit-of-zero, bit-pow, bit-pow-only, lt-own-pow, some-bit}
 use Rattle.model.proofs.Stores.{has-i, has-e, is-store, in-store, within-trans}
 use Rattle.model.proofs.Closure.{closure-iff, consistent-or-empty, failed-iff, between-self, between-rest}
 use Rattle.model.proofs.Choices.{anyChoice-e, anyChoice-i, anyChoice-mono, length-pick, pick-within, pick-small, takes-mono}
@@ -116,7 +118,7 @@ support-e B counts s p i l v e = go (or-e (not (anyIn (s .columns) (eqb (getD (s
         let j = supports-e (s .columns) (r .0) (getD (s .columns) i 0) v (and-r (allows s (r .0)) _ (r .2)) in
         let same : j .0 ≡ i = distinct (s .columns) (p .rising) (j .0) i (j .1) l (j .2) in
         record {
-          row = r .0;
+          tuple = r .0;
           sheet-allows = and-l (allows s (r .0)) _ (r .2);
           valid = r .1;
           value = ap (λ (k : ℕ). getD (r .0) k 0) (sym same) ∙ j .3;
@@ -135,9 +137,9 @@ support-i B d s c v h = go (either (anyIn (s .columns) (eqb c)))
         let i = place (s .columns) c q in
         let k = h (i .0) (i .1) (i .2) in
         or-r (not (anyIn (s .columns) (eqb c))) _
-        (anyChoice-i (pick B (s .columns)) (pick-small B (s .columns) d) (λ t. allows s t && supports (s .columns) t c v) (k .row) (k .valid)
+        (anyChoice-i (pick B (s .columns)) (pick-small B (s .columns) d) (λ t. allows s t && supports (s .columns) t c v) (k .tuple) (k .valid)
         (and-i (k .sheet-allows)
-        (rw (i .2) at (supports-i (s .columns) (k .row) (i .0) v (k .valid .size ∙ length-pick B (s .columns)) (i .1) (k .value)))))
+        (rw (i .2) at (supports-i (s .columns) (k .tuple) (i .0) v (k .valid .size ∙ length-pick B (s .columns)) (i .1) (k .value)))))
 
 -- ---- consistent by the test, consistent by the paper
 pub consistent-to : (b : Book) → WellFormed b → (B : List ℕ) → Consistent (columnCount b) (supported b) B → ConsistentStore b B
@@ -164,9 +166,9 @@ consistent-from b B d h =
 pub support-mono : (B D : List ℕ) → Within B D → (s : Sheet) (i v : ℕ) → Support B s i v → Support D s i v
 support-mono B D w s i v k =
     record {
-      row = k .row;
+      tuple = k .tuple;
       sheet-allows = k .sheet-allows;
-      valid = takes-mono (pick B (s .columns)) (pick D (s .columns)) (k .row) (length-pick B (s .columns) ∙ sym (length-pick D (s .columns))) (pick-within B D (s .columns) w) (k .valid);
+      valid = takes-mono (pick B (s .columns)) (pick D (s .columns)) (k .tuple) (length-pick B (s .columns) ∙ sym (length-pick D (s .columns))) (pick-within B D (s .columns) w) (k .valid);
       value = k .value;
     }
 
@@ -247,36 +249,51 @@ module _ (b : Book) (p : WellFormed b) (A : List ℕ) (a : IsStore (columnCount 
       go (inl h) = inl (consistent-to b p _ h)
       go (inr e) = inr e
 
--- ---- what is allowed is a row, and a row is allowed
--- a cell matches its own value and no other
-pub matches-e : (x v : ℕ) → matches x v ≡ true → x ≡ v
-matches-e x v e = bit-pow-only v x e
+-- ---- what a cell matches: all that the laws above and below ask of it
+-- 255 matches every value
+pub matches-any : (x v : ℕ) → isAny x ≡ true → matches x v ≡ true
+unfolding inDomain
+matches-any x v e = rw e (lt-ltb 0 (2 ^ v) (pow-pos v))
 
-pub matches-i : (v : ℕ) → matches v v ≡ true
-matches-i v = bit-pow v
+-- any other cell matches itself
+pub matches-plain : (x v : ℕ) → isAny x ≡ false → matches x v ≡ true → x ≡ v
+unfolding inDomain
+matches-plain x v e m = bit-pow-only v x (rw e at m)
 
-row-matches-e : (r t : List ℕ) → rowMatches r t ≡ true → r ≡ t
-unfolding rowMatches
-row-matches-e [] [] e = refl
-row-matches-e [] (v ∷ t) e = absurd (false≢true e)
-row-matches-e (x ∷ r) [] e = absurd (false≢true e)
-row-matches-e (x ∷ r) (v ∷ t) e =
-    let p = matches-e x v (and-l (matches x v) _ e) in
-    let q = row-matches-e r t (and-r (matches x v) _ e) in
-    ap₂ (λ (y : ℕ) (l : List ℕ). y ∷ l) p q
+pub matches-self : (x : ℕ) → matches x x ≡ true
+unfolding inDomain
+matches-self x = go (either (isAny x))
+  where
+    go : (isAny x ≡ true) ⊎ (isAny x ≡ false) → cond (isAny x) (ltb 0 (2 ^ x)) (bit x (2 ^ x)) ≡ true
+    go (inl e) = rw e (lt-ltb 0 (2 ^ x) (pow-pos x))
+    go (inr e) = rw e (bit-pow x)
 
-row-matches-i : (t : List ℕ) → rowMatches t t ≡ true
-unfolding rowMatches
-row-matches-i [] = refl
-row-matches-i (v ∷ t) = and-i (matches-i v) (row-matches-i t)
+-- a cell is in a domain exactly when it matches a value of it
+pub in-domain-i : (x d v : ℕ) → matches x v ≡ true → bit v d ≡ true → inDomain x d ≡ true
+unfolding inDomain
+in-domain-i x d v m e = go (either (isAny x))
+  where
+    go : (isAny x ≡ true) ⊎ (isAny x ≡ false) → cond (isAny x) (ltb 0 d) (bit x d) ≡ true
+    go (inl a) = rw a (lt-ltb 0 d (positive d (λ z. false≢true (sym (bit-of-zero v) ∙ ap (bit v) (sym z) ∙ e))))
+    go (inr a) = rw a (ap (λ (u : ℕ). bit u d) (bit-pow-only v x (rw a at m)) ∙ e)
 
-pub allows-e : (s : Sheet) (t : List ℕ) → allows s t ≡ true → List·Memᴰ t (s .rows)
+pub in-domain-e : (x d : ℕ) → inDomain x d ≡ true → (v : ℕ) × (bit v d ≡ true) × (matches x v ≡ true)
+unfolding inDomain
+in-domain-e x d e = go (either (isAny x))
+  where
+    go : (isAny x ≡ true) ⊎ (isAny x ≡ false) → (v : ℕ) × (bit v d ≡ true) × (cond (isAny x) (ltb 0 (2 ^ v)) (bit x (2 ^ v)) ≡ true)
+    go (inl a) =
+        let r = some-bit d d (lt-own-pow d) (ltb-true 0 d (rw a at e)) in (r .0, r .2, rw a (lt-ltb 0 (2 ^ r .0) (pow-pos (r .0))))
+    go (inr a) = (x, rw a at e, rw a (bit-pow x))
+
+-- what is allowed matches a row, and what matches a row is allowed
+pub allows-e : (s : Sheet) (t : List ℕ) → allows s t ≡ true → (r : List ℕ) × List·Memᴰ r (s .rows) × (rowMatches r t ≡ true)
 unfolding allows
-allows-e s t e = let r = anyIn-e (s .rows) (λ r. rowMatches r t) e in Memᴰ·cast (sym (row-matches-e (r .0) t (r .2))) (r .1)
+allows-e s t e = anyIn-e (s .rows) (λ r. rowMatches r t) e
 
-pub allows-i : (s : Sheet) (t : List ℕ) → List·Memᴰ t (s .rows) → allows s t ≡ true
+pub allows-i : (s : Sheet) (r t : List ℕ) → List·Memᴰ r (s .rows) → rowMatches r t ≡ true → allows s t ≡ true
 unfolding allows
-allows-i s t m = anyIn-i (s .rows) (λ r. rowMatches r t) t m (row-matches-i t)
+allows-i s r t m e = anyIn-i (s .rows) (λ r. rowMatches r t) r m e
 
 -- a book with a sheet without rows fails, whatever is allowed: K8 for every such book
 pub no-rows-fail : (b : Book) → WellFormed b → (s : Sheet) → List·Memᴰ s (b .sheets) → s .rows ≡ []
@@ -288,7 +305,7 @@ no-rows-fail b p s m e A a = fails-iff b p A a .1 (record { none = gone })
         let q = p .sheet s m in
         let r = h .filled (getD (s .columns) 0 0) (q .inside 0 (q .some-column)) in
         let k = h .support s m 0 (q .some-column) (r .0) (r .1) in
-        List·Memᴰ·not-nil (subst (λ (l : List (List ℕ)). List·Memᴰ (k .row) l) e (allows-e s (k .row) (k .sheet-allows)))
+        let r = allows-e s (k .tuple) (k .sheet-allows) in List·Memᴰ·not-nil (subst (λ (l : List (List ℕ)). List·Memᴰ (r .0) l) e (r .1))
 
 -- in a book without sheets all values stay, where no column is empty: K9 for every such book
 pub no-sheets-stay : (b : Book) → b .sheets ≡ [] → (A : List ℕ) → IsStore (columnCount b) A

@@ -1,6 +1,6 @@
 -- Laws of choices: the first that passes is the least, and none is found exactly when none passes. Assumes nothing.
 use mathlib.Core.Path.{_≡_, refl, sym, ap, ap₂, _∙_, subst, subst⁻¹}
-use mathlib.Core.Bool.{Bool, true, false, false≢true}
+use mathlib.Core.Bool.{Bool, true, false, cond, false≢true}
 use mathlib.Core.Logic.{_⊎_, inl, inr, _↔_}
 use mathlib.Core.Option.{Option, none, some}
 use mathlib.Core.List.{List, [], _∷_}
@@ -11,7 +11,7 @@ use lib.ListN.{length, getD, length-map, List·getD-eq-default}
 use Rattle.model.specs.Masks.{bit}
 use Rattle.model.specs.Stores.{has, Within}
 use Rattle.model.specs.Choices.{pick, Takes, Lower, First, firstOf, lead, firstChoice, anyChoice}
-use Rattle.model.proofs.Tests.{either, anyBelow-e, anyBelow-i, below}
+use Rattle.model.proofs.Tests.{either, same-test, anyBelow-e, anyBelow-i, below}
 use Rattle.model.proofs.Masks.{bit-of-zero, bit-below}
 
 -- ---- the first choice of one value from each domain that passes a test: lowest by column 0, then column 1, and so on
@@ -126,6 +126,9 @@ takes-head : {m : ℕ} {B : List ℕ} {v : ℕ} {x : List ℕ} → Takes (m ∷ 
 unfolding has
 takes-head {m} {B} t = t .each 0 (zero-lt-suc (length B))
 
+takes-nil : Takes [] []
+takes-nil = record { size = refl; each = λ c l. absurd (not-suc-le-zero l) }
+
 takes-cons : {m : ℕ} {B : List ℕ} {v : ℕ} {x : List ℕ} → bit v m ≡ true → Takes B x → Takes (m ∷ B) (v ∷ x)
 unfolding has
 takes-cons {m} {B} {v} {x} e t = record { size = ap suc (t .size); each = at }
@@ -157,7 +160,7 @@ lower-cons v {x} {y} h = record { column = suc (h .column); same = at; less = h 
     at (suc d) l = h .same d (le-of-suc-le-suc l)
 
 first-nil : (p : List ℕ → Bool) → p [] ≡ true → First [] p []
-first-nil p q = record { takes = record { size = refl; each = λ c l. absurd (not-suc-le-zero l) }; passes = q; least = at }
+first-nil p q = record { takes = takes-nil; passes = q; least = at }
   where
     at : (y : List ℕ) → Takes [] y → p y ≡ true → ([] ≡ y) ⊎ Lower [] y
     at [] t r = inl refl
@@ -243,6 +246,19 @@ module _ (B : List ℕ) (h : Small B) (p : List ℕ → Bool) where
       from (inl e) n = e
       from (inr q) n = let f = first-found B h p (q .0) (q .1) in absurd (n (q .0) (f .takes) (f .passes))
 
+-- two tests that agree on every choice find the same
+pub firstChoice-same : (B : List ℕ) (p q : List ℕ → Bool) → ((x : List ℕ) → Takes B x → p x ≡ q x) → firstChoice B p ≡ firstChoice B q
+unfolding firstChoice
+firstChoice-same [] p q h = ap (λ (t : Bool). cond t (some []) none) (h [] takes-nil)
+firstChoice-same (m ∷ B) p q h =
+    firstOf-same 32 (step m B p) (step m B q)
+    (λ v l. go v (λ e. firstChoice-same B (λ x. p (v ∷ x)) (λ x. q (v ∷ x)) (λ x t. h (v ∷ x) (takes-cons e t))) (either (bit v m)))
+  where
+    go : (v : ℕ) → (bit v m ≡ true → firstChoice B (λ x. p (v ∷ x)) ≡ firstChoice B (λ x. q (v ∷ x))) → (bit v m ≡ true) ⊎ (bit v m ≡ false)
+        → step m B p v ≡ step m B q v
+    go v r (inl e) = step-yes m B p v e ∙ ap (lead v) (r e) ∙ sym (step-yes m B q v e)
+    go v r (inr e) = step-no m B p v e ∙ sym (step-no m B q v e)
+
 -- ---- some choice passes
 abbrev also : ℕ → List ℕ → (List ℕ → Bool) → ℕ → Bool
 also m B p v = elim (bit v m) [ true ↦ anyChoice B (λ x. p (v ∷ x)) | false ↦ false ]
@@ -259,7 +275,7 @@ also-i m B p v q e = rw (q, also) e
 
 pub anyChoice-e : (B : List ℕ) (p : List ℕ → Bool) → anyChoice B p ≡ true → (x : List ℕ) × Takes B x × (p x ≡ true)
 unfolding anyChoice
-anyChoice-e [] p e = ([], record { size = refl; each = λ c l. absurd (not-suc-le-zero l) }, e)
+anyChoice-e [] p e = ([], takes-nil, e)
 anyChoice-e (m ∷ B) p e =
     let r = anyBelow-e 32 (also m B p) e in
     let q = also-e m B p (r .0) (r .2) in
@@ -274,6 +290,20 @@ anyChoice-i (m ∷ B) h p [] t e = absurd (omega (arith, t .size))
 anyChoice-i (m ∷ B) h p (v ∷ x) t e =
     anyBelow-i 32 (also m B p) v (bit-below 32 m v (h 0) (takes-head t))
     (also-i m B p v (takes-head t) (anyChoice-i B (λ c. h (suc c)) (λ y. p (v ∷ y)) x (takes-tail t) e))
+
+-- a weaker test, and one that agrees on every choice
+anyChoice-weaker : (B : List ℕ) (p q : List ℕ → Bool) → ((x : List ℕ) → Takes B x → p x ≡ true → q x ≡ true) → anyChoice B p ≡ true → anyChoice B q ≡ true
+unfolding anyChoice
+anyChoice-weaker [] p q h e = h [] takes-nil e
+anyChoice-weaker (m ∷ B) p q h e =
+    let r = anyBelow-e 32 (also m B p) e in
+    let k = also-e m B p (r .0) (r .2) in
+    anyBelow-i 32 (also m B q) (r .0) (r .1)
+    (also-i m B q (r .0) (k .0) (anyChoice-weaker B (λ x. p (r .0 ∷ x)) (λ x. q (r .0 ∷ x)) (λ x t. h (r .0 ∷ x) (takes-cons (k .0) t)) (k .1)))
+
+pub anyChoice-same : (B : List ℕ) (p q : List ℕ → Bool) → ((x : List ℕ) → Takes B x → p x ≡ q x) → anyChoice B p ≡ anyChoice B q
+anyChoice-same B p q h =
+    same-test _ _ (anyChoice-weaker B p q (λ x t e. sym (h x t) ∙ e)) (anyChoice-weaker B q p (λ x t e. h x t ∙ e))
 
 -- more values, more choices
 pub anyChoice-mono : (B A : List ℕ) → length B ≡ length A → Within B A → (p : List ℕ → Bool) → anyChoice B p ≡ true → anyChoice A p ≡ true

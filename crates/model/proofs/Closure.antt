@@ -250,3 +250,23 @@ module _ (C : ℕ) (ok : List ℕ → ℕ → ℕ → Bool) where
     closure-again A a =
         between-same A a (closureOf C ok A) (closure-store A a)
         (record { lower = within-refl (closureOf C ok A); upper = closure-within A a })
+
+-- two support tests that agree on every store within A close it alike
+pub closure-same : (C : ℕ) (ok ok′ : List ℕ → ℕ → ℕ → Bool) → Monotone C ok → Monotone C ok′ → (A : List ℕ) → IsStore C A
+    → ((B : List ℕ) → Within B A → (c v : ℕ) → ok B c v ≡ ok′ B c v) → closureOf C ok A ≡ closureOf C ok′ A
+closure-same C ok ok′ m m′ A a h =
+    store-ext C _ _ (closure-store C ok m A a) (closure-store C ok′ m′ A a)
+    (λ c v p q. same-test _ _ (turn ok ok′ m m′ h c v) (turn ok′ ok m′ m (λ B w k u. sym (h B w k u)) c v))
+  where
+    turn : (f g : List ℕ → ℕ → ℕ → Bool) → Monotone C f → Monotone C g → ((B : List ℕ) → Within B A → (c v : ℕ) → f B c v ≡ g B c v)
+        → (c v : ℕ) → has (closureOf C f A) c v ≡ true → has (closureOf C g A) c v ≡ true
+    turn f g n k h c v e =
+        let s = closure-iff C f n A a c v .0 e in
+        closure-iff C g k A a c v .1
+        (record {
+          store = s .store;
+          consistent =
+              record { filled = s .consistent .filled; supported = λ d u i. sym (h (s .store) (s .within) d u) ∙ s .consistent .supported d u i };
+          within = s .within;
+          holds = s .holds;
+        })

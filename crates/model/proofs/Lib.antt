@@ -15,4 +15,6 @@ pub mod Answers
 pub mod Rows
 pub mod OneSheet
 pub mod Demands
+pub mod Twins
+pub mod WrittenOut
 pub mod Witness

@@ -94,6 +94,11 @@ some-bit (suc k) m h p = go (either (eqb (m % 2) 1)) (some-bit k (m / 2) (omega 
         let q : m % 2 ≡ 1 → ⊥ = eqb-false (m % 2) 1 e in
         let s = r (omega arith) in (suc (s .0), omega arith, bit-suc (s .0) m ∙ s .2)
 
+-- so every number but 0 has a place
+pub lt-own-pow : (n : ℕ) → n < 2 ^ n
+lt-own-pow zero = omega arith
+lt-own-pow (suc n) = let h = lt-own-pow n in rw pow-succ' (omega arith)
+
 -- ---- `&` and `|`: any operation that works digit by digit works place by place
 module _ (op digits : ℕ → ℕ → ℕ) (both : Bool → Bool → Bool)
     (op-step : (a b : ℕ) → op a b ≡ op (a / 2) (b / 2) * 2 + digits (a % 2) (b % 2))

@@ -11,9 +11,9 @@ use borrow.Author.Tests.{lt-ltb}
 use Rattle.model.specs.Books.{Book, ConsistentStore, Sheet, Stays, Support, WellFormed, WellFormedSheet, closure, columnCount, supportedIn}
 use Rattle.model.specs.States.{OneSheet, OneSheets, validRow}
 use Rattle.model.specs.Stores.{IsStore, Within, has, storeOf}
-use Rattle.model.proofs.Books.{distinct, place-or-none, stays-iff, support-e, support-i, support-mono}
+use Rattle.model.proofs.Books.{distinct, in-domain-e, place-or-none, stays-iff, support-e, support-i, support-mono}
 use Rattle.model.proofs.Choices.{length-pick, pick-e, pick-i}
-use Rattle.model.proofs.Rows.{support-iff, valid-e, valid-i}
+use Rattle.model.proofs.Rows.{supportsByRows, valid-e, valid-i}
 use Rattle.model.proofs.Stores.{has-e, has-i, in-store}
 use Rattle.model.proofs.Tests.{and-i, and-l, and-r}
 
@@ -50,30 +50,30 @@ module _ (b : Book) (s : Sheet) (A : List ℕ) (p : WellFormed b) (only : b .she
       support-e A (b .counts) s well i l v (and-r (has A (getD (s .columns) i 0) v) _ (has-e (columnCount b) keeps (getD (s .columns) i 0) v e .2))
 
   -- every value of a valid row is left
-  row-left : (i v : ℕ) (k : Support A s i v) (j : ℕ) → j < length (s .columns) → has left (getD (s .columns) j 0) (getD (k .row) j 0) ≡ true
+  row-left : (i v : ℕ) (k : Support A s i v) (j : ℕ) → j < length (s .columns) → has left (getD (s .columns) j 0) (getD (k .tuple) j 0) ≡ true
   row-left i v k j l =
-      left-i (getD (s .columns) j 0) (getD (k .row) j 0)
-      (pick-e A (s .columns) j (getD (k .row) j 0) (k .valid .each j (rw (length-pick A (s .columns)) l)) .1)
+      left-i (getD (s .columns) j 0) (getD (k .tuple) j 0)
+      (pick-e A (s .columns) j (getD (k .tuple) j 0) (k .valid .each j (rw (length-pick A (s .columns)) l)) .1)
       (λ n m q.
       record {
-        row = k .row;
+        tuple = k .tuple;
         sheet-allows = k .sheet-allows;
         valid = k .valid;
-        value = ap (λ (x : ℕ). getD (k .row) x 0) (distinct (s .columns) (well .rising) n j m l q);
+        value = ap (λ (x : ℕ). getD (k .tuple) x 0) (distinct (s .columns) (well .rising) n j m l q);
       })
 
   -- so it is valid in what is left
   support-left : (i v : ℕ) → Support A s i v → Support left s i v
   support-left i v k =
       record {
-        row = k .row;
+        tuple = k .tuple;
         sheet-allows = k .sheet-allows;
         valid =
             record {
               size = k .valid .size ∙ length-pick A (s .columns) ∙ sym (length-pick left (s .columns));
               each = λ j m.
                   let l : j < length (s .columns) = rw (length-pick left (s .columns)) at m in
-                  pick-i left (s .columns) j (getD (k .row) j 0) l (row-left i v k j l);
+                  pick-i left (s .columns) j (getD (k .tuple) j 0) l (row-left i v k j l);
             };
         value = k .value;
       }
@@ -91,7 +91,7 @@ module _ (b : Book) (s : Sheet) (A : List ℕ) (p : WellFormed b) (only : b .she
       filled : (c : ℕ) → c < columnCount b
           → ((i : ℕ) × (i < length (s .columns)) × (getD (s .columns) i 0 ≡ c)) ⊎ ((i : ℕ) → i < length (s .columns) → getD (s .columns) i 0 ≡ c → ⊥)
           → (v : ℕ) × (has left c v ≡ true)
-      filled c l (inl j) = (getD (k .row) (j .0) 0, rw (j .2) at (row-left i v k (j .0) (j .1)))
+      filled c l (inl j) = (getD (k .tuple) (j .0) 0, rw (j .2) at (row-left i v k (j .0) (j .1)))
       filled c l (inr n) = let r = f c l in (r .0, left-i c (r .0) (r .1) (λ j m q. absurd (n j m q)))
 
   -- with a valid row, what is left stays
@@ -103,39 +103,37 @@ module _ (b : Book) (s : Sheet) (A : List ℕ) (p : WellFormed b) (only : b .she
   stays-own : (c w : ℕ) (h : Stays b A c w) (i : ℕ) → i < length (s .columns) → (v : ℕ) → has (h .store) (getD (s .columns) i 0) v ≡ true → Support A s i v
   stays-own c w h i l v e = support-mono (h .store) A (h .within) s i v (h .consistent .support s member i l v e)
 
+  -- a valid row carries some value in the first column
+  row-supports : (r : ℕ) → validRow A s r ≡ true → (v : ℕ) × Support A s 0 v
+  unfolding validRow has
+  row-supports r e =
+      let h = in-domain-e _ _ (valid-e A (s .columns) (getD (s .rows) r []) (and-r (ltb r (length (s .rows))) _ e) .1 0 (well .some-column)) in
+      (h .0, supportsByRows A s 0 (h .0) (well .some-column) .1 (record { row = r; is-valid = e; value = h .2; there = h .1 }))
+
   one-sheet : OneSheet b s A
   unfolding validRow
   one-sheet =
       record {
         row = λ r m. (
-          λ e i l.
-              pick-e A (s .columns) i _
-              (valid-e A (s .columns) (getD (s .rows) r []) (and-r (ltb r (length (s .rows))) _ e) .each i (rw (length-pick A (s .columns)) l)) .1,
-          λ h. and-i (lt-ltb r (length (s .rows)) m)
-              (valid-i A (s .columns) (getD (s .rows) r [])
-              (record {
-                size = well .row-size r m ∙ sym (length-pick A (s .columns));
-                each = λ i n. let l : i < length (s .columns) = rw (length-pick A (s .columns)) at n in pick-i A (s .columns) i _ l (h i l);
-              })),
+          λ e. valid-e A (s .columns) (getD (s .rows) r []) (and-r (ltb r (length (s .rows))) _ e) .1,
+          λ h. and-i (lt-ltb r (length (s .rows)) m) (valid-i A (s .columns) (getD (s .rows) r []) (well .row-size r m) h),
         );
         own = λ i l v. (
           λ e.
               let h = stays-iff b p A a (getD (s .columns) i 0) v .0 e in
-              let k = support-iff A s i v .0 (stays-own _ _ h i l v (h .holds)) in
-              (k .row, k .is-valid, k .value),
+              supportsByRows A s i v l .0 (stays-own _ _ h i l v (h .holds)),
           λ r.
-              let k = support-iff A s i v .1 (record { row = r .0; is-valid = r .1; value = r .2 }) in
+              let k = supportsByRows A s i v l .1 r in
               left-stays i v k (getD (s .columns) i 0) v (rw (k .value) at (row-left i v k i l)),
         );
         other = λ c n v. (
           λ e.
               let h = stays-iff b p A a c v .0 e in
               let w = h .consistent .filled (getD (s .columns) 0 0) (well .inside 0 (well .some-column)) in
-              let k = support-iff A s 0 (w .0) .0 (stays-own c v h 0 (well .some-column) (w .0) (w .1)) in
+              let k = supportsByRows A s 0 (w .0) (well .some-column) .0 (stays-own c v h 0 (well .some-column) (w .0) (w .1)) in
               (h .within .at c v (h .holds), (k .row, k .is-valid)),
           λ r.
-              left-stays 0 _ (support-iff A s 0 _ .1 (record { row = r .1 .0; is-valid = r .1 .1; value = refl })) c v
-              (left-i c v (r .0) (λ i l q. absurd (n i l q))),
+              let k = row-supports (r .1 .0) (r .1 .1) in left-stays 0 (k .0) (k .1) c v (left-i c v (r .0) (λ i l q. absurd (n i l q))),
         );
       }
 

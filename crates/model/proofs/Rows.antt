@@ -1,8 +1,8 @@
--- Laws of valid rows: a value is supported in a sheet exactly when a valid row has it. What an engine strikes by its rows is not
+-- Laws of valid rows: a value is supported in a sheet exactly when a valid row carries it. What an engine strikes by its rows is not
 -- supported, and where every value has a valid row the store is consistent. Assumes nothing.
 use mathlib.Core.Path.{_∙_, _≡_, ap, ap₂, refl, sym}
 use mathlib.Core.Bool.{Bool, _&&_, false, false≢true, true}
-use mathlib.Core.Logic.{_↔_, _⊎_, inl, inr}
+use mathlib.Core.Logic.{_⊎_, inl, inr}
 use mathlib.Core.List.{List, List·Memᴰ, List·Memᴰ·head, List·Memᴰ·tail, [], _∷_}
 use Prim.Native.Nat.{_*_, _+_, _<_, _^_, suc, zero, ℕ}
 use native.Mathlib.Nat.{le-of-suc-le-suc, not-suc-le-zero, zero-lt-suc}
@@ -10,38 +10,107 @@ use native.Mathlib.Omega.{arith}
 use lib.Dec.{ltb}
 use lib.ListN.{drop, getD, length}
 use borrow.Author.Tests.{lt-ltb, ltb-true}
-use Rattle.model.specs.Books.{Book, Sheet, Support, WellFormed, WellFormedSheet, columnCount, inDomain, supported, supportedIn}
+use Rattle.model.specs.Books.{Book, Sheet, Support, WellFormed, WellFormedSheet, columnCount, inDomain, matches, rowMatches, supported, supportedIn}
 use Rattle.model.specs.Choices.{Takes, pick}
 use Rattle.model.specs.Closure.{Consistent}
 use Rattle.model.specs.Masks.{bit}
-use Rattle.model.specs.States.{valid, validRow, validWord}
+use Rattle.model.specs.States.{SupportsByRows, ValidSupport, valid, validRow, validWord}
 use Rattle.model.specs.Stores.{IsStore, has}
-use Rattle.model.proofs.Books.{allows-e, allows-i, consistent-from, support-e, support-i}
+use Rattle.model.proofs.Books.{allows-e, allows-i, consistent-from, in-domain-e, in-domain-i, support-e, support-i}
+use Rattle.model.proofs.Choices.{length-pick, pick-e}
 use Rattle.model.proofs.Masks.{bit-maskOf, mask-ext, maskOf-lt, maskOf-same}
 use Rattle.model.proofs.Tests.{allIn-e, and-i, and-l, and-r, either}
 
-pub valid-e : (D cs r : List ℕ) → valid D cs r ≡ true → Takes (pick D cs) r
-unfolding valid has
-valid-e D [] [] e = record { size = refl; each = λ i l. absurd (not-suc-le-zero l) }
-valid-e D [] (v ∷ r) e = absurd (false≢true e)
+-- ---- a row cell by cell
+pub valid-e : (D cs r : List ℕ) → valid D cs r ≡ true
+    → (length r ≡ length cs) × ((i : ℕ) → i < length cs → inDomain (getD r i 0) (getD D (getD cs i 0) 0) ≡ true)
+unfolding valid
+valid-e D [] [] e = (refl, λ i l. absurd (not-suc-le-zero l))
+valid-e D [] (x ∷ r) e = absurd (false≢true e)
 valid-e D (c ∷ cs) [] e = absurd (false≢true e)
-valid-e D (c ∷ cs) (v ∷ r) e = go (valid-e D cs r (and-r (has D c v) _ e))
+valid-e D (c ∷ cs) (x ∷ r) e = go (valid-e D cs r (and-r (inDomain x (getD D c 0)) _ e))
   where
-    go : Takes (pick D cs) r → Takes (pick D (c ∷ cs)) (v ∷ r)
-    go h = record { size = ap suc (h .size); each = at }
+    go : (length r ≡ length cs) × ((i : ℕ) → i < length cs → inDomain (getD r i 0) (getD D (getD cs i 0) 0) ≡ true)
+        → (suc (length r) ≡ suc (length cs))
+        × ((i : ℕ) → i < suc (length cs) → inDomain (getD (x ∷ r) i 0) (getD D (getD (c ∷ cs) i 0) 0) ≡ true)
+    go h = (ap suc (h .0), at)
       where
-        at : (i : ℕ) → i < suc (length (pick D cs)) → has (pick D (c ∷ cs)) i (getD (v ∷ r) i 0) ≡ true
-        at zero l = and-l (has D c v) _ e
-        at (suc i) l = h .each i (le-of-suc-le-suc l)
+        at : (i : ℕ) → i < suc (length cs) → inDomain (getD (x ∷ r) i 0) (getD D (getD (c ∷ cs) i 0) 0) ≡ true
+        at zero l = and-l (inDomain x (getD D c 0)) _ e
+        at (suc i) l = h .1 i (le-of-suc-le-suc l)
 
-pub valid-i : (D cs r : List ℕ) → Takes (pick D cs) r → valid D cs r ≡ true
-unfolding valid has
-valid-i D [] [] h = refl
-valid-i D [] (v ∷ r) h = absurd (omega (arith, h .size))
-valid-i D (c ∷ cs) [] h = absurd (omega (arith, h .size))
-valid-i D (c ∷ cs) (v ∷ r) h =
-    and-i (h .each 0 (zero-lt-suc (length (pick D cs))))
-    (valid-i D cs r (record { size = omega (arith, h .size); each = λ i l. h .each (suc i) (omega arith) }))
+pub valid-i : (D cs r : List ℕ) → length r ≡ length cs → ((i : ℕ) → i < length cs → inDomain (getD r i 0) (getD D (getD cs i 0) 0) ≡ true)
+    → valid D cs r ≡ true
+unfolding valid
+valid-i D [] [] e h = refl
+valid-i D [] (x ∷ r) e h = absurd (omega arith)
+valid-i D (c ∷ cs) [] e h = absurd (omega arith)
+valid-i D (c ∷ cs) (x ∷ r) e h =
+    and-i (h 0 (zero-lt-suc (length cs))) (valid-i D cs r (omega arith) (λ i l. h (suc i) (omega arith)))
+
+row-matches-e : (r t : List ℕ) → rowMatches r t ≡ true → (length r ≡ length t) × ((i : ℕ) → i < length t → matches (getD r i 0) (getD t i 0) ≡ true)
+unfolding rowMatches
+row-matches-e [] [] e = (refl, λ i l. absurd (not-suc-le-zero l))
+row-matches-e [] (v ∷ t) e = absurd (false≢true e)
+row-matches-e (x ∷ r) [] e = absurd (false≢true e)
+row-matches-e (x ∷ r) (v ∷ t) e = go (row-matches-e r t (and-r (matches x v) _ e))
+  where
+    go : (length r ≡ length t) × ((i : ℕ) → i < length t → matches (getD r i 0) (getD t i 0) ≡ true)
+        → (suc (length r) ≡ suc (length t)) × ((i : ℕ) → i < suc (length t) → matches (getD (x ∷ r) i 0) (getD (v ∷ t) i 0) ≡ true)
+    go h = (ap suc (h .0), at)
+      where
+        at : (i : ℕ) → i < suc (length t) → matches (getD (x ∷ r) i 0) (getD (v ∷ t) i 0) ≡ true
+        at zero l = and-l (matches x v) _ e
+        at (suc i) l = h .1 i (le-of-suc-le-suc l)
+
+-- a row that matches a choice from the domains is valid in them
+matched-valid : (D cs r t : List ℕ) → rowMatches r t ≡ true → Takes (pick D cs) t → valid D cs r ≡ true
+unfolding has
+matched-valid D cs r t e h =
+    let m = row-matches-e r t e in
+    let size : length t ≡ length cs = h .size ∙ length-pick D cs in
+    valid-i D cs r (m .0 ∙ size)
+    (λ i l.
+    in-domain-i (getD r i 0) (getD D (getD cs i 0) 0) (getD t i 0) (m .1 i (rw size l))
+    (pick-e D cs i (getD t i 0) (h .each i (rw (length-pick D cs) l)) .1))
+
+-- a choice from the domains of these columns that a row matches, and that has v at place i
+record Chosen (D cs r : List ℕ) : Type 0 where
+  pub tuple : List ℕ
+  pub takes : Takes (pick D cs) tuple
+  pub fits : rowMatches r tuple ≡ true
+
+chosen-more : (D cs r : List ℕ) (c x v : ℕ) → bit v (getD D c 0) ≡ true → matches x v ≡ true → Chosen D cs r → Chosen D (c ∷ cs) (x ∷ r)
+unfolding has rowMatches
+chosen-more D cs r c x v e m h =
+    record { tuple = v ∷ h .tuple; takes = record { size = ap suc (h .takes .size); each = at }; fits = and-i m (h .fits) }
+  where
+    at : (i : ℕ) → i < suc (length (pick D cs)) → bit (getD (v ∷ h .tuple) i 0) (getD (pick D (c ∷ cs)) i 0) ≡ true
+    at zero l = e
+    at (suc i) l = h .takes .each i (le-of-suc-le-suc l)
+
+-- a valid row matches some choice
+chosen : (D cs r : List ℕ) → valid D cs r ≡ true → Chosen D cs r
+unfolding valid has rowMatches
+chosen D [] [] e = record { tuple = []; takes = record { size = refl; each = λ i l. absurd (not-suc-le-zero l) }; fits = refl }
+chosen D [] (x ∷ r) e = absurd (false≢true e)
+chosen D (c ∷ cs) [] e = absurd (false≢true e)
+chosen D (c ∷ cs) (x ∷ r) e =
+    let v = in-domain-e x (getD D c 0) (and-l (inDomain x (getD D c 0)) _ e) in
+    chosen-more D cs r c x (v .0) (v .1) (v .2) (chosen D cs r (and-r (inDomain x (getD D c 0)) _ e))
+
+-- and one with the value v at place i, where it carries v
+chosen-with : (D cs r : List ℕ) (i v : ℕ) → valid D cs r ≡ true → i < length cs → matches (getD r i 0) v ≡ true → has D (getD cs i 0) v ≡ true
+    → (h : Chosen D cs r) × (getD (h .tuple) i 0 ≡ v)
+unfolding valid has chosen-more
+chosen-with D [] r i v e l m d = absurd (not-suc-le-zero l)
+chosen-with D (c ∷ cs) [] i v e l m d = absurd (false≢true e)
+chosen-with D (c ∷ cs) (x ∷ r) zero v e l m d =
+    (chosen-more D cs r c x v d m (chosen D cs r (and-r (inDomain x (getD D c 0)) _ e)), refl)
+chosen-with D (c ∷ cs) (x ∷ r) (suc i) v e l m d =
+    let u = in-domain-e x (getD D c 0) (and-l (inDomain x (getD D c 0)) _ e) in
+    let h = chosen-with D cs r i v (and-r (inDomain x (getD D c 0)) _ e) (le-of-suc-le-suc l) m d in
+    (chosen-more D cs r c x (u .0) (u .1) (u .2) (h .0), h .1)
 
 -- it goes by the domains of its own columns
 valid-same : (D E cs r : List ℕ) → pick D cs ≡ pick E cs → valid D cs r ≡ valid E cs r
@@ -53,42 +122,41 @@ valid-same D E (c ∷ cs) (x ∷ r) e =
     ap₂ (λ (d : ℕ) (t : Bool). inDomain x d && t) (ap (λ (l : List ℕ). getD l 0 0) e) (valid-same D E cs r (ap (drop 1) e))
 
 -- an element of a list has a place, and what stands at a place is an element
-at-place : (x : List ℕ) (l : List (List ℕ)) → List·Memᴰ x l → (i : ℕ) × (i < length l) × (getD l i [] ≡ x)
-at-place x (y ∷ l) (List·Memᴰ·head e) = (0, zero-lt-suc (length l), sym e)
-at-place x (y ∷ l) (List·Memᴰ·tail m) = let r = at-place x l m in (suc (r .0), omega arith, r .2)
+pub at-place : {A : Type 0} (d x : A) (l : List A) → List·Memᴰ x l → (i : ℕ) × (i < length l) × (getD l i d ≡ x)
+at-place d x (y ∷ l) (List·Memᴰ·head e) = (0, zero-lt-suc (length l), sym e)
+at-place d x (y ∷ l) (List·Memᴰ·tail m) = let r = at-place d x l m in (suc (r .0), omega arith, r .2)
 
 pub in-list : {A : Type 0} (d : A) (l : List A) (i : ℕ) → i < length l → List·Memᴰ (getD l i d) l
 in-list d [] i h = absurd (not-suc-le-zero h)
 in-list d (y ∷ l) zero h = List·Memᴰ·head refl
 in-list d (y ∷ l) (suc i) h = List·Memᴰ·tail (in-list d l i (le-of-suc-le-suc h))
 
--- a valid row of the sheet with the value v at place i
-pub record ValidSupport (D : List ℕ) (s : Sheet) (i v : ℕ) : Type 0 where
-  pub row : ℕ
-  pub is-valid : validRow D s row ≡ true
-  pub value : getD (getD (s .rows) row []) i 0 ≡ v
-
-pub support-iff : (D : List ℕ) (s : Sheet) (i v : ℕ) → Support D s i v ↔ ValidSupport D s i v
+-- ---- a value has support exactly when a valid row carries it
+pub supportsByRows : SupportsByRows
 unfolding validRow
-support-iff D s i v = (to, from)
+supportsByRows D s i v l = (to, from)
   where
     to : Support D s i v → ValidSupport D s i v
     to k =
-        let r = at-place (k .row) (s .rows) (allows-e s (k .row) (k .sheet-allows)) in
+        let m = allows-e s (k .tuple) (k .sheet-allows) in
+        let r = at-place [] (m .0) (s .rows) (m .1) in
+        let p : i < length (pick D (s .columns)) = rw (length-pick D (s .columns)) l in
         record {
           row = r .0;
-          is-valid = and-i (lt-ltb (r .0) (length (s .rows)) (r .1)) (rw (r .2) (valid-i D (s .columns) (k .row) (k .valid)));
-          value = ap (λ (t : List ℕ). getD t i 0) (r .2) ∙ k .value;
+          is-valid = and-i (lt-ltb (r .0) (length (s .rows)) (r .1)) (rw (r .2) (matched-valid D (s .columns) (m .0) (k .tuple) (m .2) (k .valid)));
+          value = rw (r .2, ← k .value) (row-matches-e (m .0) (k .tuple) (m .2) .1 i (rw (k .valid .size) p));
+          there = rw (← k .value) (pick-e D (s .columns) i (getD (k .tuple) i 0) (k .valid .each i p) .1);
         }
 
     from : ValidSupport D s i v → Support D s i v
     from k =
-        let l = ltb-true (k .row) (length (s .rows)) (and-l (ltb (k .row) (length (s .rows))) _ (k .is-valid)) in
+        let n = ltb-true (k .row) (length (s .rows)) (and-l (ltb (k .row) (length (s .rows))) _ (k .is-valid)) in
+        let h = chosen-with D (s .columns) (getD (s .rows) (k .row) []) i v (and-r (ltb (k .row) (length (s .rows))) _ (k .is-valid)) l (k .value) (k .there) in
         record {
-          row = getD (s .rows) (k .row) [];
-          sheet-allows = allows-i s _ (in-list [] (s .rows) (k .row) l);
-          valid = valid-e D (s .columns) _ (and-r (ltb (k .row) (length (s .rows))) _ (k .is-valid));
-          value = k .value;
+          tuple = h .0 .tuple;
+          sheet-allows = allows-i s _ _ (in-list [] (s .rows) (k .row) n) (h .0 .fits);
+          valid = h .0 .takes;
+          value = h .1;
         }
 
 -- a value without a valid row has no support, and one with a valid row has
@@ -98,12 +166,12 @@ unsupportedIn D counts s p i l v n = go (either (supportedIn D (getD (s .columns
   where
     go : (supportedIn D (getD (s .columns) i 0) v s ≡ true) ⊎ (supportedIn D (getD (s .columns) i 0) v s ≡ false)
         → supportedIn D (getD (s .columns) i 0) v s ≡ false
-    go (inl e) = absurd (n (support-iff D s i v .0 (support-e D counts s p i l v e)))
+    go (inl e) = absurd (n (supportsByRows D s i v l .0 (support-e D counts s p i l v e)))
     go (inr e) = e
 
 pub supported-valid : (D : List ℕ) → ((k : ℕ) → getD D k 0 < 2 ^ 32) → (s : Sheet) (c v : ℕ)
     → ((i : ℕ) → i < length (s .columns) → getD (s .columns) i 0 ≡ c → ValidSupport D s i v) → supportedIn D c v s ≡ true
-supported-valid D d s c v h = support-i D d s c v (λ i l q. support-iff D s i v .1 (h i l q))
+supported-valid D d s c v h = support-i D d s c v (λ i l q. supportsByRows D s i v l .1 (h i l q))
 
 module _ (b : Book) (p : WellFormed b) (D : List ℕ) where
   -- a value without a valid row in some sheet may be struck
@@ -117,7 +185,7 @@ module _ (b : Book) (p : WellFormed b) (D : List ℕ) where
       go (inl e) =
           absurd
           (n
-          (support-iff D s i v .0
+          (supportsByRows D s i v l .0
           (support-e D (b .counts) s (p .sheet s m) i l v (allIn-e (b .sheets) (supportedIn D (getD (s .columns) i 0) v) e s m))))
       go (inr e) = e
 
@@ -128,7 +196,7 @@ module _ (b : Book) (p : WellFormed b) (D : List ℕ) where
       → (v : ℕ) → has D (getD (s .columns) i 0) v ≡ true → ValidSupport D s i v)
       → Consistent (columnCount b) (supported b) D
   rows-consistent d f h =
-      consistent-from b D d (record { filled = f; support = λ s m i l v e. support-iff D s i v .1 (h s m i l v e) })
+      consistent-from b D d (record { filled = f; support = λ s m i l v e. supportsByRows D s i v l .1 (h s m i l v e) })
 
 -- ---- the words
 -- bit r mod 64 of word r div 64 says whether row r is valid

@@ -116,12 +116,12 @@ module _ (b : Book) (p : WellFormed b) (D : List ℕ) (d : IsStore (columnCount 
       forms s m =
           let q = p .sheet s m in
           let k = h .support s m 0 (q .some-column) (getD x (getD (s .columns) 0 0) 0) (takes (getD (s .columns) 0 0) (q .inside 0 (q .some-column))) in
-          let long′ : length (k .row) ≡ length (s .columns) = k .valid .size ∙ length-pick D (s .columns) in
-          let same : k .row ≡ pick x (s .columns) =
-          ext-getD 0 (k .row) (pick x (s .columns)) (long′ ∙ sym (length-pick x (s .columns)))
+          let long′ : length (k .tuple) ≡ length (s .columns) = k .valid .size ∙ length-pick D (s .columns) in
+          let same : k .tuple ≡ pick x (s .columns) =
+          ext-getD 0 (k .tuple) (pick x (s .columns)) (long′ ∙ sym (length-pick x (s .columns)))
           (λ i l. let j : i < length (s .columns) = rw long′ at l in
-          single-same (columnCount b) D d (getD (s .columns) i 0) (one (getD (s .columns) i 0) (q .inside i j)) (getD (k .row) i 0) (getD x (getD (s .columns) i 0) 0)
-          (pick-e D (s .columns) i (getD (k .row) i 0) (k .valid .each i (rw (length-pick D (s .columns)) j)) .1) (takes (getD (s .columns) i 0) (q .inside i j))
+          single-same (columnCount b) D d (getD (s .columns) i 0) (one (getD (s .columns) i 0) (q .inside i j)) (getD (k .tuple) i 0) (getD x (getD (s .columns) i 0) 0)
+          (pick-e D (s .columns) i (getD (k .tuple) i 0) (k .valid .each i (rw (length-pick D (s .columns)) j)) .1) (takes (getD (s .columns) i 0) (q .inside i j))
           ∙ sym (getD-pick x (s .columns) i j))
           in
           ap (allows s) (sym same) ∙ k .sheet-allows

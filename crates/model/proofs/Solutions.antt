@@ -107,7 +107,7 @@ solution-closure b p A a x f =
           filled = λ c l. (getD x c 0, own c l);
           support = λ s m i l v e.
               record {
-                row = pick x (s .columns);
+                tuple = pick x (s .columns);
                 sheet-allows = f .forms s m;
                 valid =
                     record {

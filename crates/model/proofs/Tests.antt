@@ -144,6 +144,15 @@ module _ {A : Type 0} where
   allIn-i [] f h = refl
   allIn-i (x ∷ xs) f h = and-i (h x (List·Memᴰ·head refl)) (allIn-i xs f (λ y m. h y (List·Memᴰ·tail m)))
 
+  -- two lists that pass alike, place by place
+  pub allIn-same : (d : A) (l m : List A) (f : A → Bool) → length l ≡ length m → ((i : ℕ) → i < length l → f (getD l i d) ≡ f (getD m i d))
+      → allIn l f ≡ allIn m f
+  unfolding allIn
+  allIn-same d [] [] f e h = refl
+  allIn-same d [] (y ∷ m) f e h = absurd (omega arith)
+  allIn-same d (x ∷ l) [] f e h = absurd (omega arith)
+  allIn-same d (x ∷ l) (y ∷ m) f e h = ap₂ _&&_ (h 0 (zero-lt-suc (length l))) (allIn-same d l m f (omega arith) (λ i k. h (suc i) (omega arith)))
+
   pub anyIn-e : (l : List A) (f : A → Bool) → anyIn l f ≡ true → (x : A) × List·Memᴰ x l × (f x ≡ true)
   unfolding anyIn
   anyIn-e [] f e = absurd (false≢true e)

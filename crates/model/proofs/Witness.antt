@@ -1,7 +1,7 @@
--- The statements speak of something: the paper's books are well-formed, its opening state holds, and a book with one sheet has stores with no
--- empty column. Assumes nothing.
-use mathlib.Core.Path.{_∙_, _≡_, ap, refl, sym}
-use mathlib.Core.Bool.{Bool, _&&_, true}
+-- The statements speak of something: the paper's books are well-formed, its opening state holds, a book with one sheet has stores with no
+-- empty column, and a book with 255 has a written-out twin. Assumes nothing.
+use mathlib.Core.Path.{_∙_, _≡_, ap, refl, subst, sym}
+use mathlib.Core.Bool.{Bool, _&&_, _||_, true}
 use mathlib.Core.Logic.{_⊎_, inl, inr, ⊎-elim}
 use mathlib.Core.List.{List, [], _∷_}
 use Prim.Native.Nat.{_<_, suc, zero, ℕ}
@@ -9,19 +9,24 @@ use native.Mathlib.Omega.{arith}
 use lib.Dec.{eqb, leb, ltb}
 use lib.ListN.{getD, length}
 use borrow.Author.Tests.{eqb-true, leb-true, ltb-true}
-use Rattle.model.specs.Acceptance.{BooksWellFormed, H, H1, H2, H7, H8, H9, RowFacts, openingIndex, openingRows, sheetOf, unequal}
-use Rattle.model.specs.Books.{Book, Sheet, WellFormed, WellFormedSheet, columnCount, sheetAt}
+use Rattle.model.specs.Acceptance.{AnyBoard, BooksWellFormed, H, H1, H2, H7, H8, H9, HA, RowFacts, openingIndex, openingRows, sheetOf, unequal}
+use Rattle.model.specs.Books.{Book, Sheet, WellFormed, WellFormedSheet, columnCount, isAny, sheetAt}
 use Rattle.model.specs.Orders.{Entry, allowed, domains, narrowed}
 use Rattle.model.specs.States.{Indexed, OneSheet, ofSheet, valid, validRow, validWord}
 use Rattle.model.specs.Stores.{allFilled}
 use Rattle.model.specs.Tests.{allBelow, allIn}
-use Rattle.model.proofs.Acceptance.{computing}
+use Rattle.model.specs.Twins.{SameAnswers}
+use Rattle.model.proofs.Acceptance.{computing, writtenOutFacts}
 use Rattle.model.proofs.OneSheet.{oneSheets}
 use Rattle.model.proofs.Stores.{filled-e}
-use Rattle.model.proofs.Tests.{allBelow-e, allIn-e, and-l, and-r}
+use Rattle.model.proofs.Tests.{allBelow-e, allIn-e, and-l, and-r, or-e}
 use Rattle.model.proofs.Trails.{allowed-store}
+use Rattle.model.proofs.WrittenOut.{writtenOutAnswers}
 
 -- ---- well-formed books, by a test
+cellTest : List ℕ → Sheet → ℕ → ℕ → Bool
+cellTest counts s r i = isAny (getD (getD (s .rows) r []) i 0) || ltb (getD (getD (s .rows) r []) i 0) (getD counts (getD (s .columns) i 0) 0)
+
 sheetTest : List ℕ → Sheet → Bool
 sheetTest counts s =
     ltb 0 (length (s .columns))
@@ -30,10 +35,10 @@ sheetTest counts s =
     && (allBelow (length (s .columns)) (λ i. ltb (getD (s .columns) i 0) (length counts))
     && (leb (length (s .rows)) 508
     && (allBelow (length (s .rows)) (λ r. eqb (length (getD (s .rows) r [])) (length (s .columns)))
-    && allBelow (length (s .rows)) (λ r. allBelow (length (s .columns)) (λ i. ltb (getD (getD (s .rows) r []) i 0) (getD counts (getD (s .columns) i 0) 0))))))))
+    && allBelow (length (s .rows)) (λ r. allBelow (length (s .columns)) (cellTest counts s r)))))))
 
 sheet-well-formed : (counts : List ℕ) (s : Sheet) → sheetTest counts s ≡ true → WellFormedSheet counts s
-unfolding sheetTest
+unfolding sheetTest cellTest
 sheet-well-formed counts s e1 =
     let e2 = and-r (ltb 0 (length (s .columns))) _ e1 in
     let e3 = and-r (leb (length (s .columns)) 4) _ e2 in
@@ -49,8 +54,12 @@ sheet-well-formed counts s e1 =
       inside = λ i l. ltb-true _ _ (allBelow-e _ (λ i. ltb (getD (s .columns) i 0) (length counts)) (and-l _ _ e4) i l);
       few-rows = leb-true _ _ (and-l _ _ e5);
       row-size = λ r l. eqb-true _ _ (allBelow-e _ (λ r. eqb (length (getD (s .rows) r [])) (length (s .columns))) (and-l _ _ e6) r l);
-      row-value = λ r i l m. ltb-true _ _ (allBelow-e _ (λ i. ltb (getD (getD (s .rows) r []) i 0) (getD counts (getD (s .columns) i 0) 0)) (allBelow-e _ (λ r. allBelow (length (s .columns)) (λ i. ltb (getD (getD (s .rows) r []) i 0) (getD counts (getD (s .columns) i 0) 0))) e7 r l) i m);
+      row-value = λ r i l m. row-cell r i (allBelow-e _ (cellTest counts s r) (allBelow-e _ (λ r. allBelow (length (s .columns)) (cellTest counts s r)) e7 r l) i m);
     }
+  where
+    row-cell : (r i : ℕ) → cellTest counts s r i ≡ true
+        → (isAny (getD (getD (s .rows) r []) i 0) ≡ true) ⊎ (getD (getD (s .rows) r []) i 0 < getD counts (getD (s .columns) i 0) 0)
+    row-cell r i e = ⊎-elim inl (λ l. inr (ltb-true _ _ l)) (or-e (isAny (getD (getD (s .rows) r []) i 0)) _ e)
 
 bookTest : Book → Bool
 bookTest b =
@@ -78,7 +87,7 @@ book-well-formed b e1 =
     }
 
 pub booksWellFormed : BooksWellFormed
-unfolding bookTest sheetTest allBelow allIn
+unfolding bookTest sheetTest cellTest allBelow allIn
 booksWellFormed =
     record {
       h = book-well-formed H refl;
@@ -87,6 +96,14 @@ booksWellFormed =
       h7 = book-well-formed H7 refl;
       h8 = book-well-formed H8 refl;
       h9 = book-well-formed H9 refl;
+      ha = book-well-formed HA refl;
+    }
+
+-- HA and its written-out twin
+pub anyBoard : AnyBoard
+anyBoard =
+    record {
+      same = subst (SameAnswers HA) (writtenOutFacts .harbour) (writtenOutAnswers HA (booksWellFormed .ha));
     }
 
 -- ---- H2 has one sheet: whatever is allowed, so long as no column is empty

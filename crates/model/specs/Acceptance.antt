@@ -1,6 +1,6 @@
 -- The examples of document 01 that the customer accepts by: harbour book H, the ten facts K1 to K10, the run of seven lines; and beside
 -- them what the search finds, refusals, bytes, valid rows, and what demand 3 leaves free. Each record is proved in proofs/Acceptance.antt under
--- its name with a small letter; `BooksWellFormed` and `RowFacts` in proofs/Witness.antt.
+-- its name with a small letter; `BooksWellFormed`, `RowFacts` and `AnyBoard` in proofs/Witness.antt.
 use mathlib.Core.Path.{_≡_}
 use mathlib.Core.Option.{none, some}
 use mathlib.Core.List.{List, [], _∷_}
@@ -13,6 +13,8 @@ use Rattle.model.specs.Orders.{Entry, checkpoint, refusal, trail, domain
 use Rattle.model.specs.Answers.{Answer, answers, lastAnswer, acceptedCount, answerBytes}
 use Rattle.model.specs.States.{validWord, StateOf}
 use Rattle.model.specs.Demands.{SameAllowed}
+use Rattle.model.specs.Twins.{SameAnswers}
+use Rattle.model.specs.WrittenOut.{writtenRow, writtenSheet, writtenOut}
 
 abbrev pub sheetOf : List ℕ → List (List ℕ) → Sheet
 sheetOf cs rs = record { columns = cs; rows = rs }
@@ -183,6 +185,27 @@ pub record RowFacts : Type 0 where
   pub narrowed-0 : validWord (domains H (trail H (narrow 2 1 ∷ []))) (sheetAt H 0) 0 ≡ 3
   pub narrowed-1 : validWord (domains H (trail H (narrow 2 1 ∷ []))) (sheetAt H 1) 0 ≡ 1
 
+-- ---- "Any board" in one row
+-- H with one row for motor 0 and any board, where H has a row for each board
+abbrev pub HA : Book
+HA = record {
+  counts = H .counts;
+  sheets = sheetAt H 0 ∷ sheetOf (1 ∷ 2 ∷ []) ((0 ∷ 255 ∷ []) ∷ (1 ∷ 1 ∷ []) ∷ []) ∷ [];
+}
+
+pub record WrittenOutFacts : Type 0 where
+  -- "Row byte 255 in a used column stands for all its values": all 3 of column 0. A plain row stays
+  pub one : writtenSheet (3 ∷ 2 ∷ []) (sheetOf (0 ∷ 1 ∷ []) ((255 ∷ 1 ∷ []) ∷ (2 ∷ 0 ∷ []) ∷ []))
+      ≡ sheetOf (0 ∷ 1 ∷ []) ((0 ∷ 1 ∷ []) ∷ (1 ∷ 1 ∷ []) ∷ (2 ∷ 1 ∷ []) ∷ (2 ∷ 0 ∷ []) ∷ [])
+  -- each 255 of a row for itself
+  pub two : writtenRow (3 ∷ 2 ∷ []) (0 ∷ 1 ∷ []) (255 ∷ 255 ∷ [])
+      ≡ (0 ∷ 0 ∷ []) ∷ (0 ∷ 1 ∷ []) ∷ (1 ∷ 0 ∷ []) ∷ (1 ∷ 1 ∷ []) ∷ (2 ∷ 0 ∷ []) ∷ (2 ∷ 1 ∷ []) ∷ []
+  pub harbour : writtenOut HA ≡ H
+
+-- so every list of orders is answered over it as over H
+pub record AnyBoard : Type 0 where
+  pub same : SameAnswers HA H
+
 -- ---- the books of this page are well-formed
 pub record BooksWellFormed : Type 0 where
   pub h : WellFormed H
@@ -191,6 +214,7 @@ pub record BooksWellFormed : Type 0 where
   pub h7 : WellFormed H7
   pub h8 : WellFormed H8
   pub h9 : WellFormed H9
+  pub ha : WellFormed HA
 
 -- "Depth and byte 0 may differ between the lists": a mark, or an order of an unknown kind, after the opening
 abbrev pub unknown : List ℕ

@@ -1,9 +1,10 @@
 -- A book: columns, and sheets of rows. What its consistent stores and closure are: "What settled means" of document 01.
 use mathlib.Core.Path.{_≡_}
-use mathlib.Core.Bool.{Bool, true, false, not, _&&_, _||_}
+use mathlib.Core.Bool.{Bool, true, false, cond, not, _&&_, _||_}
+use mathlib.Core.Logic.{_⊎_}
 use mathlib.Core.List.{List, [], _∷_, List·Memᴰ}
 use Prim.Native.Nat.{ℕ, _^_, _≤_, _<_}
-use lib.Dec.{eqb}
+use lib.Dec.{eqb, ltb}
 use lib.ListN.{length, getD}
 use Rattle.model.specs.Tests.{allIn, anyIn}
 use Rattle.model.specs.Masks.{bit}
@@ -30,11 +31,16 @@ columnCount b = length (b .counts)
 abbrev pub sheetAt : Book → ℕ → Sheet
 sheetAt b s = getD (b .sheets) s (record { columns = []; rows = [] })
 
--- the cell x of a row is in the domain d: "A row lies in a box when each of its values is in its column's domain". Whatever looks at a cell goes by this
-abbrev pub inDomain : ℕ → ℕ → Bool
-inDomain x d = bit x d
+-- "Row byte 255 in a used column stands for all its values."
+abbrev pub isAny : ℕ → Bool
+isAny x = eqb x 255
 
--- it matches the value v: it is in the domain of v alone
+-- the cell x of a row is in the domain d: "A row lies in a box when its other values do and the 255 columns aren't empty". Whatever looks at a
+-- cell goes by this
+unfoldable pub inDomain : ℕ → ℕ → Bool
+inDomain x d = cond (isAny x) (ltb 0 d) (bit x d)
+
+-- it matches the value v: it is in the domain of v alone. So 255 matches every value
 abbrev pub matches : ℕ → ℕ → Bool
 matches x v = inDomain x (2 ^ v)
 
@@ -45,11 +51,11 @@ rowMatches [] (v ∷ t) = false
 rowMatches (x ∷ r) [] = false
 rowMatches (x ∷ r) (v ∷ t) = matches x v && rowMatches r t
 
--- the sheet allows the values t in its columns: they form a row. Nothing else looks at rows to say what is allowed
+-- the sheet allows the values t in its columns: "Full sets match in the same way". Nothing else looks at rows to say what is allowed
 unfoldable pub allows : Sheet → List ℕ → Bool
 allows s t = anyIn (s .rows) (λ r. rowMatches r t)
 
--- "width k, 1 to 4", "k column numbers below C, each above the one before", "rows n, 0 to 508", "k values, each below its column's V"
+-- "width k, 1 to 4", "k column numbers below C, each above the one before", "rows n, 0 to 508", "k values, each below its column's V", or 255
 pub record WellFormedSheet (counts : List ℕ) (s : Sheet) : Type 0 where
   pub some-column : 0 < length (s .columns)
   pub few-columns : length (s .columns) ≤ 4
@@ -58,7 +64,7 @@ pub record WellFormedSheet (counts : List ℕ) (s : Sheet) : Type 0 where
   pub few-rows : length (s .rows) ≤ 508
   pub row-size : (r : ℕ) → r < length (s .rows) → length (getD (s .rows) r []) ≡ length (s .columns)
   pub row-value : (r i : ℕ) → r < length (s .rows) → i < length (s .columns)
-      → getD (getD (s .rows) r []) i 0 < getD counts (getD (s .columns) i 0) 0
+      → (isAny (getD (getD (s .rows) r []) i 0) ≡ true) ⊎ (getD (getD (s .rows) r []) i 0 < getD counts (getD (s .columns) i 0) 0)
 
 -- "columns C, 1 to 16", "sheets S, 0 to 8", "values V of column i, 1 to 32"
 pub record WellFormed (b : Book) : Type 0 where
@@ -70,14 +76,14 @@ pub record WellFormed (b : Book) : Type 0 where
   pub sheet : (s : Sheet) → List·Memᴰ s (b .sheets) → WellFormedSheet (b .counts) s
 
 -- ---- what settled means
--- a support: a row of the sheet that is valid in B and has the value v at place i. "A row lies in a box when each of its values is in
--- its column's domain" (valid): `pick B (s .columns)` are the domains of the sheet's columns, and `Takes` (Choices) says that the row has one
--- value of each. That there is one is formula (3.2) of document 000: (currTable ∩ supports[x, a]) ≠ ∅
+-- a support: an allowed tuple, with one value of each domain of the sheet's columns in B (`pick`, `Takes`: Choices), that has the value v at place i.
+-- There is one exactly when a row of the sheet lies in B and carries v there (`SupportsByRows`, States). That there is one is formula (3.2) of document
+-- 000: (currTable ∩ supports[x, a]) ≠ ∅
 pub record Support (B : List ℕ) (s : Sheet) (i v : ℕ) : Type 0 where
-  pub row : List ℕ
-  pub sheet-allows : allows s row ≡ true
-  pub valid : Takes (pick B (s .columns)) row
-  pub value : getD row i 0 ≡ v
+  pub tuple : List ℕ
+  pub sheet-allows : allows s tuple ≡ true
+  pub valid : Takes (pick B (s .columns)) tuple
+  pub value : getD tuple i 0 ≡ v
 
 -- a consistent store: "A sound box has no empty column, and in it, for each sheet, every value of every column of that sheet is carried
 -- by a row of that sheet lying in the box"

@@ -5,6 +5,7 @@
 --     settled domains          closure                        bar, mark              checkpoint
 --     full set                 solution                       dead, decided          failed, assigned
 --     live row                 valid row                      done (of a sheet)      subsumed
+--     row with 255             short row                      allowed combination    allowed tuple
 pub mod Tests
 pub mod Masks
 pub mod Stores
@@ -17,4 +18,6 @@ pub mod Orders
 pub mod Answers
 pub mod States
 pub mod Demands
+pub mod Twins
+pub mod WrittenOut
 pub mod Acceptance

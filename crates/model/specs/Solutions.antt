@@ -11,7 +11,8 @@ use Rattle.model.specs.Stores.{has}
 use Rattle.model.specs.Choices.{pick, Lower, firstChoice}
 use Rattle.model.specs.Books.{Sheet, Book, columnCount, allows}
 
--- a solution in B: "A full set takes one value of each current domain, and its values in each sheet's columns form a row"
+-- a solution in B: "A full set takes one value of each current domain, and its values in each sheet's columns form a row", or match one with 255:
+-- "Full sets match in the same way"
 pub record Solution (b : Book) (B x : List ℕ) : Type 0 where
   pub size : length x ≡ columnCount b
   pub takes : (c : ℕ) → c < columnCount b → has B c (getD x c 0) ≡ true

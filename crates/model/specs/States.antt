@@ -9,9 +9,9 @@ use lib.Dec.{ltb}
 use lib.ListN.{length, getD}
 use Rattle.model.specs.Masks.{maskOf}
 use Rattle.model.specs.Stores.{has, IsStore}
-use Rattle.model.specs.Books.{Sheet, Book, columnCount, WellFormed, closure, inDomain, sheetAt}
+use Rattle.model.specs.Books.{Sheet, Book, Support, columnCount, WellFormed, closure, inDomain, matches, sheetAt}
 
--- "A row lies in a box when each of its values is in its column's domain": one value for each of these columns
+-- "A row lies in a box when its other values do and the 255 columns aren't empty": one cell for each of these columns
 unfoldable pub valid : List ℕ → List ℕ → List ℕ → Bool
 valid D [] [] = true
 valid D [] (v ∷ r) = false
@@ -22,15 +22,27 @@ valid D (c ∷ cs) (x ∷ r) = inDomain x (getD D c 0) && valid D cs r
 unfoldable pub validRow : List ℕ → Sheet → ℕ → Bool
 validRow D s r = ltb r (length (s .rows)) && valid D (s .columns) (getD (s .rows) r [])
 
+-- a row of the sheet that is valid in D and carries the value v at place i: its cell there matches v, and v is in the column's domain. With 255,
+-- "it carries every value there"
+pub record ValidSupport (D : List ℕ) (s : Sheet) (i v : ℕ) : Type 0 where
+  pub row : ℕ
+  pub is-valid : validRow D s row ≡ true
+  pub value : matches (getD (getD (s .rows) row []) i 0) v ≡ true
+  pub there : has D (getD (s .columns) i 0) v ≡ true
+
+-- there is one exactly when there is a support (Books): so a sound box, which speaks of allowed combinations, is one in which "every value of every
+-- column of that sheet is carried by a row of that sheet lying in the box". Proved as `supportsByRows` (proofs/Rows.antt)
+abbrev pub SupportsByRows : Type 0
+SupportsByRows = (D : List ℕ) (s : Sheet) (i v : ℕ) → i < length (s .columns) → Support D s i v ↔ ValidSupport D s i v
+
 -- "For one sheet this is formulas (3.1) and (3.2) of source document 000": the closure of A where s is the only sheet, from the rows that
 -- are valid in A itself, once and with no fixed point
 pub record OneSheet (b : Book) (s : Sheet) (A : List ℕ) : Type 0 where
-  -- (3.1): a row is valid exactly when A has its value in each column of the sheet
+  -- (3.1): a row is valid exactly when each of its cells is in the domain that A has for its column
   pub row : (r : ℕ) → r < length (s .rows)
-      → (validRow A s r ≡ true) ↔ ((i : ℕ) → i < length (s .columns) → has A (getD (s .columns) i 0) (getD (getD (s .rows) r []) i 0) ≡ true)
-  -- (3.2): a value of the sheet's column at place i is left exactly when a valid row has it there
-  pub own : (i : ℕ) → i < length (s .columns) → (v : ℕ)
-      → (has (closure b A) (getD (s .columns) i 0) v ≡ true) ↔ ((r : ℕ) × (validRow A s r ≡ true) × (getD (getD (s .rows) r []) i 0 ≡ v))
+      → (validRow A s r ≡ true) ↔ ((i : ℕ) → i < length (s .columns) → inDomain (getD (getD (s .rows) r []) i 0) (getD A (getD (s .columns) i 0) 0) ≡ true)
+  -- (3.2): a value of the sheet's column at place i is left exactly when a valid row carries it there
+  pub own : (i : ℕ) → i < length (s .columns) → (v : ℕ) → (has (closure b A) (getD (s .columns) i 0) v ≡ true) ↔ ValidSupport A s i v
   -- any other column keeps its values, where there is a valid row at all
   pub other : (c : ℕ) → ((i : ℕ) → i < length (s .columns) → getD (s .columns) i 0 ≡ c → ⊥) → (v : ℕ)
       → (has (closure b A) c v ≡ true) ↔ ((has A c v ≡ true) × ((r : ℕ) × (validRow A s r ≡ true)))

@@ -1,3 +1,4 @@
--- The promises, and two lists compared.
+-- The promises, two lists compared, and two books.
 pub mod Promises
 pub mod Comparisons
+pub mod Twins

@@ -1,8 +1,9 @@
-// promises: what a run comes to in the customer's words, and two whole lists compared. No call of a customer's runs this crate.
+// promises: what a run comes to in the customer's words, two whole lists compared, and two books. No call of a customer's runs this crate.
 //
 // Promise: `AnyRuns`, `AcceptedRuns` and `RunsCompare` (specs/Promises.antt) are the demands of the bytes that runs leave, proved as `anyRuns`,
 // `acceptedRuns` and `runsCompare`. `run_both` ensures demand 3 of any two lists, whole (`BothRan`, specs/Comparisons.antt): its sentences on "the
-// session given back" no answer shows. The sessions are those of the loop that `fitting_run` runs.
+// session given back" no answer shows. The sessions are those of the loop that `fitting_run` runs. `TwinsRunAlike` and `WrittenOutRuns`
+// (specs/Twins.antt) are what runs over two books that allow the same leave, proved as `twinsRunAlike` and `writtenOutRuns`.
 use runs::run::*;
 use sessions::session::*;
 ghost use lib.ListN.{length};

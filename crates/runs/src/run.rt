@@ -29,8 +29,9 @@ pub fn run_orders(book: &[u8], orders: &[u8], answers: &mut [u8]) -> Ran
 {
     let mut begins = [0usize; 8];
     let mut scopes = [0u32; 8];
-    lay_out(book, &mut begins, &mut scopes);
-    let mut s = opened(answers, book, &begins, &scopes);
+    let mut shorts = [0u32; 8];
+    lay_out(book, &mut begins, &mut scopes, &mut shorts);
+    let mut s = opened(answers, book, &begins, &scopes, &shorts);
     let mut accepted: u64 = 0;
     let mut i: usize = 0;
     while i < orders.len() / 8 {
@@ -41,14 +42,18 @@ pub fn run_orders(book: &[u8], orders: &[u8], answers: &mut [u8]) -> Ran
         if r == 0 {
             accepted += 1;
             if order[0] == 1 {
-                s = s.narrow(book, &begins, &scopes, wide(order[1]), mask_of(order));
+                let c = wide(order[1]);
+                let m = mask_of(order);
+                s = s.narrow(book, &begins, &scopes, &shorts, c, m);
             } else if order[0] == 2 {
                 s = s.mark();
             } else if order[0] == 3 {
                 s = s.back(wide(order[1]));
             }
         }
-        show_order(answers, i, book, &begins, &scopes, order, r, s.depth, s.now);
+        let d = s.depth;
+        let st = s.now;
+        show_order(answers, i, book, &begins, &scopes, &shorts, order, r, d, st);
     }
     Ran {
         accepted: accepted,

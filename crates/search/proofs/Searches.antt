@@ -134,7 +134,7 @@ module _ (b : List ℕ) (acc : Accepted b) where
           let z : 2 ^ v ≡ 0 = sym (value-met D c v (h .is .store .bits c) value-small (o .value)) ∙ e in
           omega (arith, pow-pos v)
 
-      pub value-ready : {begins M : List ℕ} → LayoutOf b begins M → {waiting : ℕ} → WaitingFor M ((1 * 2 ^ c) % 2 ^ 32) 8 waiting
+      pub value-ready : {begins M S : List ℕ} → LayoutOf b begins M S → {waiting : ℕ} → WaitingFor M ((1 * 2 ^ c) % 2 ^ 32) 8 waiting
           → Ready b false waiting ((1 * 2 ^ c) % 2 ^ 32) (set D c m) W X N
       value-ready lay {waiting} w =
           subst (λ (S : List ℕ). Ready b false waiting ((1 * 2 ^ c) % 2 ^ 32) S W X N) set-meet

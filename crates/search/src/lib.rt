@@ -64,12 +64,13 @@ fn pick_column(
     book: &[u8],
     begins: &[usize; 8],
     scopes: &[u32; 8],
+    shorts: &[u32; 8],
     dom: &[u32; 16],
     valid: &[u64; 64],
     index: &[u8; 64],
     nonzero: &[u8; 8],
 ) -> Found
-    requires { ⌜ LayoutOf (now book) (now begins) (now scopes) × FilledState (now book) (now dom) (now valid) (now index) (now nonzero) ⌝ }
+    requires { ⌜ LayoutOf (now book) (now begins) (now scopes) (now shorts) × FilledState (now book) (now dom) (now valid) (now index) (now nonzero) ⌝ }
     ensures { λ r. ⌜ FoundIs (now (book .entry)) (searchIn (now (book .entry)) (now (dom .entry))) r ⌝ }
 {
     let c = open_column(dom);
@@ -83,6 +84,7 @@ fn pick_column(
             book,
             begins,
             scopes,
+            shorts,
             dom,
             valid,
             index,
@@ -103,6 +105,7 @@ fn try_value(
     book: &[u8],
     begins: &[usize; 8],
     scopes: &[u32; 8],
+    shorts: &[u32; 8],
     dom: &[u32; 16],
     valid: &[u64; 64],
     index: &[u8; 64],
@@ -110,7 +113,7 @@ fn try_value(
     c: usize,
     v: u32,
 ) -> Found
-    requires { ⌜ LayoutOf (now book) (now begins) (now scopes) × FilledState (now book) (now dom) (now valid) (now index) (now nonzero) × OpenValue (now book) (now dom) c v ⌝ }
+    requires { ⌜ LayoutOf (now book) (now begins) (now scopes) (now shorts) × FilledState (now book) (now dom) (now valid) (now index) (now nonzero) × OpenValue (now book) (now dom) c v ⌝ }
     ensures { λ r. ⌜ FoundIs (now (book .entry)) (searchAfter (now (book .entry)) (now (dom .entry)) c v) r ⌝ }
 {
     let column = 1u32 << c;
@@ -124,6 +127,7 @@ fn try_value(
         book,
         begins,
         scopes,
+        shorts,
         waiting,
         column,
         false,
@@ -132,14 +136,20 @@ fn try_value(
         &mut x,
         &mut n,
     ) {
-        return pick_column(book, begins, scopes, &d, &l, &x, &n);
+        return pick_column(book, begins, scopes, shorts, &d, &l, &x, &n);
     }
     nothing()
 }
 
 // A finish of the state of a trail.
-pub fn finish(book: &[u8], begins: &[usize; 8], scopes: &[u32; 8], st: State) -> Found
-    requires { ⌜ LayoutOf (now book) (now begins) (now scopes) × SomeState (now book) st ⌝ }
+pub fn finish(
+    book: &[u8],
+    begins: &[usize; 8],
+    scopes: &[u32; 8],
+    shorts: &[u32; 8],
+    st: State,
+) -> Found
+    requires { ⌜ LayoutOf (now book) (now begins) (now scopes) (now shorts) × SomeState (now book) st ⌝ }
     ensures { λ r. ⌜ Finishes (now (book .entry)) st r ⌝ }
 {
     let dom = st.dom;
@@ -149,5 +159,5 @@ pub fn finish(book: &[u8], begins: &[usize; 8], scopes: &[u32; 8], st: State) ->
     let valid = st.valid;
     let index = st.index;
     let nonzero = st.nonzero;
-    pick_column(book, begins, scopes, &dom, &valid, &index, &nonzero)
+    pick_column(book, begins, scopes, shorts, &dom, &valid, &index, &nonzero)
 }

@@ -14,7 +14,7 @@ fn wrong_place(order: &[u8], places: u32, i: usize) -> bool
     requires { ⌜ (length (now order) ≡ 8) × (i < 8) ⌝ }
     ensures { λ r. ⌜ r ≡ wrongPlace places (now (order .entry)) i ⌝ }
 {
-    if cells::bits::has(places, i as u32) == 0 {
+    if cells::bits::has(places as u64, i as u32) == 0 {
         return false;
     }
     order[i] != 0

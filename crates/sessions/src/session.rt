@@ -30,11 +30,11 @@ fn blank() -> State {
 }
 
 // The session of the empty trail.
-pub fn open(book: &[u8], begins: &[usize; 8], scopes: &[u32; 8]) -> Session
-    requires { ⌜ LayoutOf (now book) (now begins) (now scopes) ⌝ }
+pub fn open(book: &[u8], begins: &[usize; 8], scopes: &[u32; 8], shorts: &[u32; 8]) -> Session
+    requires { ⌜ LayoutOf (now book) (now begins) (now scopes) (now shorts) ⌝ }
     ensures { λ r. ⌜ Holds (now (book .entry)) [] r ⌝ }
 {
-    let st = opening(book, begins, scopes);
+    let st = opening(book, begins, scopes, shorts);
     let none = blank();
     Session {
         now: st,
@@ -50,14 +50,15 @@ impl Session {
         book: &[u8],
         begins: &[usize; 8],
         scopes: &[u32; 8],
+        shorts: &[u32; 8],
         c: usize,
         m: u32,
     ) -> Session
-        requires { ⌜ LayoutOf (now book) (now begins) (now scopes) × (c < columnsOf (now book)) × SomeSession (now book) self ⌝ }
+        requires { ⌜ LayoutOf (now book) (now begins) (now scopes) (now shorts) × (c < columnsOf (now book)) × SomeSession (now book) self ⌝ }
         ensures { λ r. ⌜ NarrowHolds (now (book .entry)) c m self r ⌝ }
     {
         let st = self.now;
-        let t = st.narrowed(book, begins, scopes, c, m);
+        let t = st.narrowed(book, begins, scopes, shorts, c, m);
         self.now = t;
         self
     }

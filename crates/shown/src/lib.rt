@@ -37,11 +37,17 @@ fn state_only(st: State) -> Outcome
 }
 
 // What a finish of the state finds.
-fn finished(book: &[u8], begins: &[usize; 8], scopes: &[u32; 8], st: State) -> Outcome
-    requires { ⌜ LayoutOf (now book) (now begins) (now scopes) × SomeState (now book) st ⌝ }
+fn finished(
+    book: &[u8],
+    begins: &[usize; 8],
+    scopes: &[u32; 8],
+    shorts: &[u32; 8],
+    st: State,
+) -> Outcome
+    requires { ⌜ LayoutOf (now book) (now begins) (now scopes) (now shorts) × SomeState (now book) st ⌝ }
     ensures { λ r. ⌜ ShowsFound (now (book .entry)) st r ⌝ }
 {
-    let f = search::finish(book, begins, scopes, st);
+    let f = search::finish(book, begins, scopes, shorts, st);
     let masks = f.dom;
     if f.ok {
         return Outcome {
@@ -60,18 +66,19 @@ fn outcome_of(
     book: &[u8],
     begins: &[usize; 8],
     scopes: &[u32; 8],
+    shorts: &[u32; 8],
     order: &[u8],
     refused: u32,
     st: State,
 ) -> Outcome
-    requires { ⌜ LayoutOf (now book) (now begins) (now scopes) × SomeState (now book) st × (length (now order) ≡ 8) ⌝ }
+    requires { ⌜ LayoutOf (now book) (now begins) (now scopes) (now shorts) × SomeState (now book) st × (length (now order) ≡ 8) ⌝ }
     ensures { λ r. ⌜ ShowsBesides (now (book .entry)) (now (order .entry)) refused st r ⌝ }
 {
     if refused != 0 {
         return state_only(st);
     }
     if order[0] == 4 {
-        return finished(book, begins, scopes, st);
+        return finished(book, begins, scopes, shorts, st);
     }
     state_only(st)
 }
@@ -113,24 +120,31 @@ pub fn show_order(
     book: &[u8],
     begins: &[usize; 8],
     scopes: &[u32; 8],
+    shorts: &[u32; 8],
     order: &[u8],
     refused: u32,
     depth: usize,
     st: State,
 )
-    requires { ⌜ LayoutOf (now book) (now begins) (now scopes) × SomeState (now book) st × (i ≤ 256) × (72 * i + 72 ≤ length (now answers)) × (refused < 256) × (depth < 256) × (length (now order) ≡ 8) ⌝ }
+    requires { ⌜ LayoutOf (now book) (now begins) (now scopes) (now shorts) × SomeState (now book) st × (i ≤ 256) × (72 * i + 72 ≤ length (now answers)) × (refused < 256) × (depth < 256) × (length (now order) ≡ 8) ⌝ }
     ensures { λ r. ⌜ AnswersAt (now (book .entry)) (now (order .entry)) refused st depth i (now (answers .entry)) (now (answers .exit)) ⌝ }
 {
-    let f = outcome_of(book, begins, scopes, order, refused, st);
+    let f = outcome_of(book, begins, scopes, shorts, order, refused, st);
     show(answers, i, book, scopes, refused, depth, st, f);
 }
 
 // The session of the empty trail, and answer 0.
-pub fn opened(answers: &mut [u8], book: &[u8], begins: &[usize; 8], scopes: &[u32; 8]) -> Session
-    requires { ⌜ LayoutOf (now book) (now begins) (now scopes) × (72 ≤ length (now answers)) ⌝ }
+pub fn opened(
+    answers: &mut [u8],
+    book: &[u8],
+    begins: &[usize; 8],
+    scopes: &[u32; 8],
+    shorts: &[u32; 8],
+) -> Session
+    requires { ⌜ LayoutOf (now book) (now begins) (now scopes) (now shorts) × (72 ≤ length (now answers)) ⌝ }
     ensures { λ r. ⌜ Holds (now (book .entry)) [] r × Adds 0 (opening (bookOf (now (book .entry)))) (now (answers .entry)) (now (answers .exit)) ⌝ }
 {
-    let s = open(book, begins, scopes);
+    let s = open(book, begins, scopes, shorts);
     let st = s.now;
     show(answers, 0, book, scopes, 0, 0, st, state_only(st));
     s

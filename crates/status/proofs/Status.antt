@@ -204,7 +204,7 @@ done-failed S M lead opens e = rw (eq-eqb lead 0 e) refl
 pub few-sheets : (b : List ℕ) → Accepted b → sheetsOf b ≤ 8
 few-sheets b acc = sheets-most b (accepted-right b acc .head)
 
-pub layout-masks : {b begins M : List ℕ} → LayoutOf b begins M → SheetMasks b M
+pub layout-masks : {b begins M S : List ℕ} → LayoutOf b begins M S → SheetMasks b M
 layout-masks h = record { accepted = h .accepted; columns = h .columns }
 
 -- a mask with a place is not 0

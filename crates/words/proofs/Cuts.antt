@@ -12,9 +12,9 @@ use lib.Dec.{eqb}
 use lib.ListN.{getD, length, length-set, set}
 use lib.Seq.{getD-set-other, getD-set-same}
 use borrow.Author.Tests.{eq-eqb, eqb-false, eqb-true, ne-eqb}
+use Rattle.model.specs.Books.{inDomain}
 use Rattle.model.specs.Masks.{bit}
 use Rattle.model.specs.States.{ofSheet}
-use Rattle.model.specs.Stores.{has}
 use Rattle.model.specs.Tests.{allBelow}
 use Rattle.model.proofs.Masks.{bit-below, bit-of-zero, some-bit}
 use Rattle.model.proofs.Tests.{allBelow-last, and-assoc, and-l, and-true, below, either, or-false-l, or-false-r}
@@ -22,7 +22,7 @@ use Rattle.heads.specs.Heads.{columnOf, rowsOf}
 use Rattle.cells.specs.Cells.{Kept, Readable, nearPlace}
 use Rattle.words.specs.Sheets.{AtSheet, CutBy, IndexOf, Inside, OnlySheet, SheetWords, Sized, WordCut, firstByte, isSet, passesAt, passesBelow, swapped, valueAt, valueIn}
 use Rattle.words.proofs.Indexes.{Where, index-dropped, index-kept, left, length-swapped, names-other, neither, of-set-other, of-set-same, of-swapped, of-swapped-other, other, other-left, other-lt, other-rest, other-right, past-limit, right, set-below, where-is}
-use Rattle.words.proofs.Places.{block-there, cell-small, cell-there, eight}
+use Rattle.words.proofs.Places.{block-there, cell-is, cell-there, eight}
 
 pub row-word : (W : List ℕ) (s w k : ℕ) → k < 64 → isSet W s (64 * w + k) ≡ bit k (ofSheet W s w)
 unfolding isSet
@@ -32,10 +32,10 @@ row-word W s w k l =
     rw (p, q)
 
 -- a word's rows are there
-pub word-readable : {b : List ℕ} {begin s : ℕ} → AtSheet b begin s → (W : List ℕ) → Inside b s W → (w : ℕ) → w < 8 → ofSheet W s w < 2 ^ 64
+word-readable : {b : List ℕ} {begin s : ℕ} → AtSheet b begin s → (W : List ℕ) → Inside b s W → (w : ℕ) → w < 8 → ofSheet W s w < 2 ^ 64
     → Readable b begin (64 * w) (ofSheet W s w)
 word-readable {b} {begin} {s} a W h w l f =
-    record { there = λ k e. cell-there a (64 * w + k) (row k e); value = λ k j e p. cell-small a (64 * w + k) j (row k e) p }
+    record { there = λ k e. cell-there a (64 * w + k) (row k e); cell = λ k j e p. cell-is a (64 * w + k) j (row k e) p }
   where
     row : (k : ℕ) → bit k (ofSheet W s w) ≡ true → 64 * w + k < rowsOf b s
     row k e = let z = bit-below 64 (ofSheet W s w) k f e in h .at (64 * w + k) (omega arith) (row-word W s w k z ∙ e)
@@ -52,13 +52,21 @@ word-start (suc (suc (suc (suc (suc (suc zero)))))) l = omega arith
 word-start (suc (suc (suc (suc (suc (suc (suc zero))))))) l = omega arith
 word-start (suc (suc (suc (suc (suc (suc (suc (suc w)))))))) l = absurd (omega arith)
 
-pub word-there : {b : List ℕ} {begin s : ℕ} → AtSheet b begin s → (W : List ℕ) → Inside b s W → (w : ℕ) → w < 8 → ofSheet W s w < 2 ^ 64 → 0 < ofSheet W s w
+word-there : {b : List ℕ} {begin s : ℕ} → AtSheet b begin s → (W : List ℕ) → Inside b s W → (w : ℕ) → w < 8 → ofSheet W s w < 2 ^ 64 → 0 < ofSheet W s w
     → nearPlace begin w + 239 < length b
 word-there {b} {begin} {s} a W h w l f p =
     let k = some-bit 64 (ofSheet W s w) f p in
     let r : 64 * w + k .0 < rowsOf b s = h .at (64 * w + k .0) (omega (arith, k .1)) (row-word W s w (k .0) (k .1) ∙ k .2) in
     let q : 64 * w < rowsOf b s = omega arith in
     omega (arith, block-there a (64 * w) q, word-start w l)
+
+-- both of the word at a position below the count
+pub word-at : {b : List ℕ} {begin s : ℕ} → AtSheet b begin s → {W X N : List ℕ} → SheetWords b s W X N → {p w : ℕ} → p < getD N s 0 → w ≡ ofSheet X s p
+    → w < 8 → Readable b begin (64 * w) (ofSheet W s w) × (nearPlace begin w + 239 < length b)
+word-at {b} {begin} {s} a {W} {X} {N} h {p} {w} l e k =
+    let m : p < 8 = omega (arith, h .indexed .few) in
+    let f : ofSheet W s w < 2 ^ 64 = h .sized .bits (8 * s + w) in
+    (word-readable a W (h .inside) w k f, word-there a W (h .inside) w k f (rw e (h .indexed .limit p m .0 l)))
 
 -- ---- what concerns one sheet alone
 pub only-same : {s : ℕ} {W X N : List ℕ} → OnlySheet s W X N W X N
@@ -249,7 +257,7 @@ module _ {b : List ℕ} {s j d : ℕ} {W X N W′ X′ N′ : List ℕ} where
     at = λ r l.
         let f = h .indexed .every (r / 64) (omega arith) in
         let e : 64 * (r / 64) + r % 64 ≡ r = omega arith in
-        (rw (f .2) at (h .done (f .0) (omega arith) (f .1) .at (r % 64))) ∙ ap (λ (i : ℕ). bit (r % 64) (ofSheet W s (r / 64)) && bit (valueAt b s i j) d) e;
+        (rw (f .2) at (h .done (f .0) (omega arith) (f .1) .at (r % 64))) ∙ ap (λ (i : ℕ). bit (r % 64) (ofSheet W s (r / 64)) && inDomain (valueAt b s i j) d) e;
     indexed = h .indexed;
     only = h .only;
     sized = h .sized;
@@ -290,9 +298,9 @@ cut-unchanged b s changed j D W X N h e =
 -- one that changed cuts by its domain
 pub cut-changed : (b : List ℕ) (s changed j d : ℕ) (D : List ℕ) {W X N W′ X′ N′ : List ℕ} → bit (columnOf b s j) changed ≡ true → d ≡ getD D (columnOf b s j) 0
     → CutBy (valueIn b s j d) s W X N W′ X′ N′ → CutBy (passesAt b s changed D j) s W X N W′ X′ N′
-unfolding passesAt valueIn has
+unfolding passesAt valueIn
 cut-changed b s changed j d D {W} e f c =
-    record { at = λ r l. rw e (c .at r l ∙ ap (λ (x : ℕ). isSet W s r && bit (valueAt b s r j) x) f); indexed = c .indexed; only = c .only; sized = c .sized }
+    record { at = λ r l. rw e (c .at r l ∙ ap (λ (x : ℕ). isSet W s r && inDomain (valueAt b s r j) x) f); indexed = c .indexed; only = c .only; sized = c .sized }
 
 -- ---- what the code tests
 pub bit-is : (c k m : ℕ) → c ≡ k → m / 2 ^ c % 2 ≡ 1 → bit k m ≡ true

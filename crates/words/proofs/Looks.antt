@@ -6,14 +6,14 @@ use mathlib.Core.List.{List}
 use Prim.Native.Nat.{_%_, _*_, _+_, _/_, _<_, ℕ}
 use native.Mathlib.Omega.{arith}
 use lib.ListN.{getD, length}
-use Rattle.model.specs.Books.{Sheet, supportedIn, sheetAt}
+use Rattle.model.specs.Books.{Sheet, inDomain, matches, supportedIn, sheetAt}
 use Rattle.model.specs.Masks.{bit}
-use Rattle.model.specs.States.{ofSheet, validRow, validWord}
+use Rattle.model.specs.States.{ValidSupport, ofSheet, validRow, validWord}
 use Rattle.model.specs.Stores.{IsStore, Within, has}
 use Rattle.model.specs.Tests.{allBelow}
-use Rattle.model.proofs.Books.{matches-e, matches-i, support-e}
+use Rattle.model.proofs.Books.{in-domain-e, in-domain-i, support-e}
 use Rattle.model.proofs.Masks.{bit-of-zero, some-bit}
-use Rattle.model.proofs.Rows.{ValidSupport, support-iff, supported-valid, unsupportedIn, word-row, word-same}
+use Rattle.model.proofs.Rows.{supported-valid, supportsByRows, unsupportedIn, word-row, word-same}
 use Rattle.model.proofs.Tests.{allBelow-e, allBelow-i, and-i, and-l, and-r, either, or-r, positive, same-test}
 use Rattle.book.specs.Decoding.{bookOf}
 use Rattle.heads.specs.Heads.{columnOf, widthOf}
@@ -38,10 +38,12 @@ module _ {b : List ℕ} {begin s : ℕ} (a : AtSheet b begin s) where
       ap (bit (r % 64)) (h (r / 64) (omega arith)) ∙ word-row E sheet (r / 64) (r % 64) (omega arith) ∙ ap (validRow E sheet) e
 
   valid-within : {B D : List ℕ} → Within B D → (r : ℕ) → validRow B (sheetAt (bookOf b) s) r ≡ true → validRow D (sheetAt (bookOf b) s) r ≡ true
-  valid-within {B} {D} w r e = let q = valid-e a B r e in valid-i a D r (q .0) (λ j l. w .at _ _ (q .1 j l))
+  unfolding has
+  valid-within {B} {D} w r e =
+      let q = valid-e a B r e in
+      valid-i a D r (q .0) (λ j l. let u = in-domain-e _ _ (q .1 j l) in in-domain-i _ _ (u .0) (u .2) (w .at (columnOf b s j) (u .0) (u .1)))
 
   pub rows-known : {changed : ℕ} {opening : Bool} {D W X N : List ℕ} → SheetKnown b s changed opening D W X N → Sized W X N → RowsKnown b s changed D W X N
-  unfolding has
   rows-known {changed} {opening} {D} {W} h z = record {
     words = record { inside = record { at = λ r l e. valid-e a (h .saw) r (sym (at r l) ∙ e) .0 }; indexed = h .seen .indexed; sized = z };
     all = λ r l e. at r l ∙ valid-within (h .within) r e;
@@ -56,14 +58,14 @@ module _ {b : List ℕ} {begin s : ℕ} (a : AtSheet b begin s) where
     at = λ j v l e.
         let i : j < length (sheet .columns) = omega (arith, columns-size a) in
         let y : supportedIn (h .saw) (getD (sheet .columns) j 0) v sheet ≡ true = rw (column-value a j l) (h .seen .supported o (columnOf b s j) v (h .within .at _ v e)) in
-        let u = support-iff (h .saw) sheet j v .0 (support-e (h .saw) (bookOf b .counts) sheet (formed a .sheet sheet (sheet-in a)) j i v y) in
+        let u = supportsByRows (h .saw) sheet j v i .0 (support-e (h .saw) (bookOf b .counts) sheet (formed a .sheet sheet (sheet-in a)) j i v y) in
         let n = valid-e a (h .saw) (u .row) (u .is-valid) .0 in
         let m : u .row < 512 = omega (arith, n, rows-few a) in
         record {
           row = u .row;
           small = m;
           set-row = set-valid (h .saw) W (h .seen .rows) (u .row) m ∙ u .is-valid;
-          value = rw (sym (row-value a (u .row) j n l) ∙ u .value) (matches-i v);
+          value = ap (λ (x : ℕ). matches x v) (sym (row-value a (u .row) j n l)) ∙ u .value;
         };
   }
 
@@ -94,7 +96,8 @@ module _ {b : List ℕ} {begin s : ℕ} (a : AtSheet b begin s) where
           record {
             row = u .row;
             is-valid = sym (valid (u .row) (u .small)) ∙ u .set-row;
-            value = row-value a (u .row) i (h .words .inside .at (u .row) (u .small) (u .set-row)) j ∙ matches-e _ v (u .value);
+            value = ap (λ (x : ℕ). matches x v) (row-value a (u .row) i (h .words .inside .at (u .row) (u .small) (u .set-row)) j) ∙ u .value;
+            there = e;
           }
 
   -- a value without a row that is set has no support
@@ -111,13 +114,13 @@ module _ {b : List ℕ} {begin s : ℕ} (a : AtSheet b begin s) where
         row = q .row;
         small = m;
         set-row = h .all (q .row) m (q .is-valid);
-        value = rw (sym (row-value a (q .row) j (r .0) l) ∙ q .value) (matches-i v);
+        value = ap (λ (x : ℕ). matches x v) (sym (row-value a (q .row) j (r .0) l)) ∙ q .value;
       })))
 
   -- ---- after pass 1 the rows that are set are the valid ones
   pub cut-known : (changed : ℕ) (D : List ℕ) {W X N W′ X′ N′ : List ℕ} → RowsKnown b s changed D W X N
       → CutBy (passesBelow b s changed D (widthOf b s)) s W X N W′ X′ N′ → RowsKnown b s 0 D W′ X′ N′
-  unfolding passesBelow passesAt has
+  unfolding passesBelow passesAt
   cut-known changed D {W} {X} {N} {W′} h c = record {
     words = cut-words c (h .words);
     all = λ r l e.
@@ -129,10 +132,10 @@ module _ {b : List ℕ} {begin s : ℕ} (a : AtSheet b begin s) where
   }
     where
       go : (r j : ℕ) → r < 512 → j < widthOf b s → (isSet W s r && allBelow (widthOf b s) (λ j. passesAt b s changed D j r)) ≡ true
-          → (bit (columnOf b s j) changed ≡ true) ⊎ (bit (columnOf b s j) changed ≡ false) → has D (columnOf b s j) (valueAt b s r j) ≡ true
+          → (bit (columnOf b s j) changed ≡ true) ⊎ (bit (columnOf b s j) changed ≡ false) → inDomain (valueAt b s r j) (getD D (columnOf b s j) 0) ≡ true
       go r j l m e (inr f) = h .seen r j l (and-l (isSet W s r) _ e) m f
       go r j l m e (inl f) =
-          let p : (not (bit (columnOf b s j) changed) || has D (columnOf b s j) (valueAt b s r j)) ≡ true
+          let p : (not (bit (columnOf b s j) changed) || inDomain (valueAt b s r j) (getD D (columnOf b s j) 0)) ≡ true
           = allBelow-e (widthOf b s) (λ j. passesAt b s changed D j r) (and-r (isSet W s r) _ e) j m in
           rw f at p
 
@@ -173,17 +176,22 @@ module _ {b : List ℕ} {begin s : ℕ} (a : AtSheet b begin s) where
 
     -- ---- columns are struck
     module _ {E : List ℕ} {lost : ℕ} (p : Struck b s W′ D E lost) where
-      -- the values of the rows that are set are not struck
-      still : (r j : ℕ) → r < 512 → isSet W′ s r ≡ true → j < widthOf b s → has E (columnOf b s j) (valueAt b s r j) ≡ true
-      still r j l e m = go (p .struck (columnOf b s j) (valueAt b s r j) (h .seen r j l e m (bit-of-zero (columnOf b s j))))
+      -- a row that is set carries a value of its column that is not struck
+      still : (r j : ℕ) → r < 512 → isSet W′ s r ≡ true → j < widthOf b s
+          → (v : ℕ) × (has E (columnOf b s j) v ≡ true) × (matches (valueAt b s r j) v ≡ true)
+      unfolding has
+      still r j l e m =
+          let u = in-domain-e _ _ (h .seen r j l e m (bit-of-zero (columnOf b s j))) in
+          (u .0, go (u .0) (u .2) (p .struck (columnOf b s j) (u .0) (u .1)), u .2)
         where
-          go : (has E (columnOf b s j) (valueAt b s r j) ≡ true)
-              ⊎ ((i : ℕ) × (i < widthOf b s) × (columnOf b s i ≡ columnOf b s j) × (SetSupport b s W′ i (valueAt b s r j) → ⊥))
-              → has E (columnOf b s j) (valueAt b s r j) ≡ true
-          go (inl f) = f
-          go (inr (i, k, f, n)) =
+          go : (v : ℕ) → matches (valueAt b s r j) v ≡ true
+              → (has E (columnOf b s j) v ≡ true)
+              ⊎ ((i : ℕ) × (i < widthOf b s) × (columnOf b s i ≡ columnOf b s j) × (SetSupport b s W′ i v → ⊥))
+              → has E (columnOf b s j) v ≡ true
+          go v t (inl f) = f
+          go v t (inr (i, k, f, n)) =
               let y : i ≡ j = column-once a i j k m f in
-              absurd (n (record { row = r; small = l; set-row = e; value = rw (ap (λ (q : ℕ). valueAt b s r q) y) (matches-i (valueAt b s r j)) }))
+              absurd (n (record { row = r; small = l; set-row = e; value = ap (λ (q : ℕ). matches (valueAt b s r q) v) y ∙ t }))
 
       -- a count that is not 0 has a row
       some-row : 0 < getD N′ s 0 → (r : ℕ) × (r < 512) × (isSet W′ s r ≡ true)
@@ -194,10 +202,11 @@ module _ {b : List ℕ} {begin s : ℕ} (a : AtSheet b begin s) where
           (64 * w + f .0, omega (arith, i, f .1), row-word W′ s w (f .0) (f .1) ∙ f .2)
 
       after : RowsKnown b s 0 E W′ X′ N′
+      unfolding has
       after = record {
         words = h .words;
         all = λ r l e. h .all r l (valid-within (p .loses .within) r e);
-        seen = λ r j l e m q. still r j l e m;
+        seen = λ r j l e m q. let u = still r j l e m in in-domain-i _ _ (u .0) (u .2) (u .1);
       }
 
       pub revised-struck : (getD N′ s 0 ≡ 0 → ⊥) → Revised b s D W X N E W′ X′ N′ true lost
@@ -221,4 +230,4 @@ module _ {b : List ℕ} {begin s : ℕ} (a : AtSheet b begin s) where
               → (has E c v ≡ true) ⊎ ((j : ℕ) × (j < widthOf b s) × (columnOf b s j ≡ c) × (SetSupport b s W′ j v → ⊥))
               → (u : ℕ) × (has E c u ≡ true)
           filled (r, l, f) c v (inl e) = (v, e)
-          filled (r, l, f) c v (inr (j, m, e, n)) = (valueAt b s r j, rw (← e) (still r j l f m))
+          filled (r, l, f) c v (inr (j, m, e, n)) = let u = still r j l f m in (u .0, rw (← e) (u .1))

@@ -1,16 +1,15 @@
 -- The sheets of an accepted book: where their rows stand, and which of them are valid. Assumes nothing.
 use mathlib.Core.Path.{_∙_, _≡_, ap, refl, sym}
 use mathlib.Core.Bool.{Bool, _&&_, true}
-use mathlib.Core.Logic.{_⊎_, inl, inr}
+use mathlib.Core.Logic.{_⊎_, inl, inr, ⊎-elim}
 use mathlib.Core.List.{List, List·Memᴰ, []}
 use Prim.Native.Nat.{_*_, _+_, _/_, _<_, _≤_, suc, zero, ℕ}
 use native.Mathlib.Omega.{arith}
 use lib.Dec.{ltb}
 use lib.ListN.{getD, length}
 use borrow.Author.Tests.{le-ltb, lt-ltb, ltb-true}
-use Rattle.model.specs.Books.{Sheet, WellFormed, sheetAt}
+use Rattle.model.specs.Books.{Sheet, WellFormed, inDomain, isAny, sheetAt}
 use Rattle.model.specs.States.{valid, validRow}
-use Rattle.model.specs.Stores.{has}
 use Rattle.model.specs.Tests.{allBelow, tab}
 use Rattle.model.proofs.Rows.{in-list}
 use Rattle.model.proofs.Tests.{allBelow-e, allBelow-i, allBelow-same, and-i, and-l, and-r, below, getD-tab, length-tab}
@@ -18,12 +17,11 @@ use Rattle.book.specs.Decoding.{bookOf, rowOf, sheetOf}
 use Rattle.fields.specs.Bytes.{byteAt}
 use Rattle.heads.specs.Heads.{columnOf, rowsOf, sheetsOf, valuesOf, widthOf}
 use Rattle.book.specs.Rows.{blocksNeeded, blocksOf, rowPlace}
-use Rattle.book.specs.Bounds.{placeBound}
-use Rattle.book.proofs.Decoding.{RightBook, accepted-right, byte-below, right-formed, rises, row-inside, value-below}
+use Rattle.book.proofs.Decoding.{RightBook, accepted-right, filler-zero, right-formed, rises, row-inside, value-cell}
 use Rattle.book.proofs.Rows.{firstBlock-later}
 use Rattle.book.proofs.Verdicts.{right-length}
 use Rattle.heads.proofs.Heads.{column-inside, columns-range, rows-most, sheets-most, values-range, width-range}
-use Rattle.cells.specs.Cells.{cellAt, cellPlace}
+use Rattle.cells.specs.Cells.{IsCell, cellAt, cellPlace}
 use Rattle.words.specs.Sheets.{AtSheet, IsSheet, valueAt}
 
 module _ {b : List ℕ} {begin s : ℕ} (a : AtSheet b begin s) where
@@ -71,33 +69,36 @@ module _ {b : List ℕ} {begin s : ℕ} (a : AtSheet b begin s) where
   block-there r l =
       omega (arith, a .begins, right-length b (right .length-right), right .blocks, firstBlock-later b s (sheetsOf b) (a .one))
 
-  pub cell-bound : (r j : ℕ) → r < rowsOf b s → j < 4 → cellAt b begin r j < placeBound b s j
-  cell-bound r j l p = rw (← same-place r j) (byte-below b right s (a .one) r j l p)
+  pub cell-value : (r j : ℕ) → r < rowsOf b s → j < widthOf b s
+      → (isAny (cellAt b begin r j) ≡ true) ⊎ (cellAt b begin r j < valuesOf b (columnOf b s j))
+  cell-value r j l p = rw (← same-place r j) (value-cell b right s (a .one) r j l p)
 
-  pub cell-value : (r j : ℕ) → r < rowsOf b s → j < widthOf b s → cellAt b begin r j < valuesOf b (columnOf b s j)
-  cell-value r j l p = rw (← same-place r j) (value-below b right s (a .one) r j l p)
-
-  pub cell-small : (r j : ℕ) → r < rowsOf b s → j < 4 → cellAt b begin r j < 32
-  unfolding placeBound
-  cell-small r j l p = go (below j (widthOf b s))
+  pub cell-is : (r j : ℕ) → r < rowsOf b s → j < 4 → IsCell (cellAt b begin r j)
+  cell-is r j l p = go (below j (widthOf b s))
     where
-      go : (j < widthOf b s) ⊎ (widthOf b s ≤ j) → cellAt b begin r j < 32
-      go (inl q) = omega (arith, cell-value r j l q, values-range b (right .head) (columnOf b s j) (column-inside b (right .head) s (a .one) j q) .1)
-      go (inr q) =
-          let e : cellAt b begin r j < 1 = rw (le-ltb j (widthOf b s) q) at (cell-bound r j l p) in omega arith
+      go : (j < widthOf b s) ⊎ (widthOf b s ≤ j) → IsCell (cellAt b begin r j)
+      go (inl q) =
+          ⊎-elim inl
+          (λ v. inr (omega (arith, values-range b (right .head) (columnOf b s j) (column-inside b (right .head) s (a .one) j q) .1)))
+          (cell-value r j l q)
+      go (inr q) = inr (omega (arith, ap (byteAt b) (same-place r j), filler-zero b right s (a .one) r j l q p))
+
+  -- the same by the sheet alone
+  pub value-is : (r j : ℕ) → r < rowsOf b s → j < 4 → IsCell (valueAt b s r j)
+  value-is r j l p = rw (a .begins) at (cell-is r j l p)
 
   -- ---- valid rows
-  valid-tab : (n : ℕ) (D : List ℕ) (f g : ℕ → ℕ) → valid D (tab n f) (tab n g) ≡ allBelow n (λ j. has D (f j) (g j))
-  unfolding tab valid allBelow has
+  valid-tab : (n : ℕ) (D : List ℕ) (f g : ℕ → ℕ) → valid D (tab n f) (tab n g) ≡ allBelow n (λ j. inDomain (g j) (getD D (f j) 0))
+  unfolding tab valid allBelow
   valid-tab zero D f g = refl
-  valid-tab (suc n) D f g = ap (λ (t : Bool). has D (f 0) (g 0) && t) (valid-tab n D (λ i. f (suc i)) (λ i. g (suc i)))
+  valid-tab (suc n) D f g = ap (λ (t : Bool). inDomain (g 0) (getD D (f 0) 0) && t) (valid-tab n D (λ i. f (suc i)) (λ i. g (suc i)))
 
   pub sheet-at : sheetAt (bookOf b) s ≡ sheetOf b s
   unfolding bookOf
   sheet-at = getD-tab (record { columns = []; rows = [] }) (sheetsOf b) (sheetOf b) s (a .one)
 
   pub valid-iff : (D : List ℕ) (r : ℕ) → validRow D (sheetAt (bookOf b) s) r
-      ≡ (ltb r (rowsOf b s) && allBelow (widthOf b s) (λ j. has D (columnOf b s j) (valueAt b s r j)))
+      ≡ (ltb r (rowsOf b s) && allBelow (widthOf b s) (λ j. inDomain (valueAt b s r j) (getD D (columnOf b s j) 0)))
   unfolding validRow sheetOf rowOf
   valid-iff D r = ap (λ (x : Sheet). validRow D x r) sheet-at ∙ go (below r (rowsOf b s))
     where
@@ -105,26 +106,26 @@ module _ {b : List ℕ} {begin s : ℕ} (a : AtSheet b begin s) where
       size = length-tab (rowsOf b s) (rowOf b s)
 
       go : (r < rowsOf b s) ⊎ (rowsOf b s ≤ r) → validRow D (sheetOf b s) r
-          ≡ (ltb r (rowsOf b s) && allBelow (widthOf b s) (λ j. has D (columnOf b s j) (valueAt b s r j)))
+          ≡ (ltb r (rowsOf b s) && allBelow (widthOf b s) (λ j. inDomain (valueAt b s r j) (getD D (columnOf b s j) 0)))
       go (inl l) =
           rw (size, lt-ltb r (rowsOf b s) l, getD-tab [] (rowsOf b s) (rowOf b s) r l)
           (valid-tab (widthOf b s) D (columnOf b s) (λ j. byteAt b (rowPlace b s r + j))
           ∙ allBelow-same (widthOf b s) _ _
-          (λ j p. ap (λ (i : ℕ). has D (columnOf b s j) (byteAt b i)) (same-place r j ∙ ap (λ (f : ℕ). cellPlace f r j) (a .begins))))
+          (λ j p. ap (λ (i : ℕ). inDomain (byteAt b i) (getD D (columnOf b s j) 0)) (same-place r j ∙ ap (λ (f : ℕ). cellPlace f r j) (a .begins))))
       go (inr l) = rw (size, le-ltb r (rowsOf b s) l)
 
   pub valid-e : (D : List ℕ) (r : ℕ) → validRow D (sheetAt (bookOf b) s) r ≡ true
-      → (r < rowsOf b s) × ((j : ℕ) → j < widthOf b s → has D (columnOf b s j) (valueAt b s r j) ≡ true)
+      → (r < rowsOf b s) × ((j : ℕ) → j < widthOf b s → inDomain (valueAt b s r j) (getD D (columnOf b s j) 0) ≡ true)
   valid-e D r e =
       let k = sym (valid-iff D r) ∙ e in (
         ltb-true r (rowsOf b s) (and-l (ltb r (rowsOf b s)) _ k),
-        λ j l. allBelow-e (widthOf b s) (λ j. has D (columnOf b s j) (valueAt b s r j)) (and-r (ltb r (rowsOf b s)) _ k) j l,
+        λ j l. allBelow-e (widthOf b s) (λ j. inDomain (valueAt b s r j) (getD D (columnOf b s j) 0)) (and-r (ltb r (rowsOf b s)) _ k) j l,
       )
 
-  pub valid-i : (D : List ℕ) (r : ℕ) → r < rowsOf b s → ((j : ℕ) → j < widthOf b s → has D (columnOf b s j) (valueAt b s r j) ≡ true)
+  pub valid-i : (D : List ℕ) (r : ℕ) → r < rowsOf b s → ((j : ℕ) → j < widthOf b s → inDomain (valueAt b s r j) (getD D (columnOf b s j) 0) ≡ true)
       → validRow D (sheetAt (bookOf b) s) r ≡ true
   valid-i D r l h =
-      valid-iff D r ∙ and-i (lt-ltb r (rowsOf b s) l) (allBelow-i (widthOf b s) (λ j. has D (columnOf b s j) (valueAt b s r j)) h)
+      valid-iff D r ∙ and-i (lt-ltb r (rowsOf b s) l) (allBelow-i (widthOf b s) (λ j. inDomain (valueAt b s r j) (getD D (columnOf b s j) 0)) h)
 
   -- the value of a row at a place, in the decoded book
   pub row-value : (r j : ℕ) → r < rowsOf b s → j < widthOf b s → getD (getD (sheetAt (bookOf b) s .rows) r []) j 0 ≡ valueAt b s r j

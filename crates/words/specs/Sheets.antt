@@ -6,9 +6,9 @@ use mathlib.Core.Path.{_≡_}
 use mathlib.Core.Bool.{Bool, _&&_, _||_, false, not, true}
 use mathlib.Core.Logic.{_⊎_}
 use mathlib.Core.List.{List}
-use Prim.Native.Nat.{_%_, _*_, _/_, _<_, _^_, _≤_, ℕ}
+use Prim.Native.Nat.{_%_, _*_, _+_, _/_, _<_, _^_, _≤_, ℕ}
 use lib.ListN.{getD, length, set}
-use Rattle.model.specs.Books.{inDomain, matches, sheetAt}
+use Rattle.model.specs.Books.{inDomain, isAny, matches, sheetAt}
 use Rattle.model.specs.Masks.{bit}
 use Rattle.model.specs.States.{Indexed, ofSheet, validRow}
 use Rattle.model.specs.Stores.{IsStore, Within, has, values}
@@ -24,7 +24,7 @@ use Rattle.cells.specs.Cells.{Kept, SmallSets, cellAt}
 abbrev pub firstByte : List ℕ → ℕ → ℕ
 firstByte b s = 512 * firstBlock b s
 
--- the value of row r of sheet s at place j
+-- the cell of row r of sheet s at place j: a value or 255
 abbrev pub valueAt : List ℕ → ℕ → ℕ → ℕ → ℕ
 valueAt b s r j = cellAt b (firstByte b s) r j
 
@@ -93,11 +93,11 @@ pub record CutBy (test : ℕ → Bool) (s : ℕ) (W X N W′ X′ N′ : List �
   pub only : OnlySheet s W X N W′ X′ N′
   pub sized : Sized W′ X′ N′
 
--- the value of row r at place j is in d
+-- the cell of row r at place j is in d
 unfoldable pub valueIn : List ℕ → ℕ → ℕ → ℕ → ℕ → Bool
 valueIn b s j d r = inDomain (valueAt b s r j) d
 
--- the column of place j is not in `changed`, or row r has a value of its domain there
+-- the column of place j is not in `changed`, or the cell of row r is in its domain
 unfoldable pub passesAt : List ℕ → ℕ → ℕ → List ℕ → ℕ → ℕ → Bool
 passesAt b s changed D j r = not (bit (columnOf b s j) changed) || inDomain (valueAt b s r j) (getD D (columnOf b s j) 0)
 
@@ -106,7 +106,11 @@ unfoldable pub passesBelow : List ℕ → ℕ → ℕ → List ℕ → ℕ → �
 passesBelow b s changed D n r = allBelow n (λ j. passesAt b s changed D j r)
 
 -- ---- pass 2
--- a support of the value v at place j (document 01: a row that carries it), among the rows that are set
+-- bit 8 j + 7 of m is set where a row of sheet s has 255 at place j: the highest bit of byte j, as the rows joined by `|` have it
+pub record ShortPlaces (b : List ℕ) (s m : ℕ) : Type 0 where
+  pub at : (r j : ℕ) → r < rowsOf b s → j < 4 → isAny (valueAt b s r j) ≡ true → bit (8 * j + 7) m ≡ true
+
+-- a support of the value v at place j (document 01: a row that carries it), among the rows that are set: "it carries every value there"
 pub record SetSupport (b : List ℕ) (s : ℕ) (W : List ℕ) (j v : ℕ) : Type 0 where
   pub row : ℕ
   pub small : row < 512
@@ -117,6 +121,30 @@ pub record SetSupport (b : List ℕ) (s : ℕ) (W : List ℕ) (j v : ℕ) : Type
 pub record Supported (b : List ℕ) (s : ℕ) (W x y : List ℕ) : Type 0 where
   pub sound : (j v : ℕ) → j < 4 → bit v (getD y j 0) ≡ true → SetSupport b s W j v
   pub complete : (j v : ℕ) → j < 4 → bit v (getD x j 0) ≡ true → SetSupport b s W j v → bit v (getD y j 0) ≡ true
+
+-- y has at each place no value but those with support, and of each row that is set the last five bits of its cell. So only of 255 values are missing
+pub record PlainSeen (b : List ℕ) (s : ℕ) (W y : List ℕ) : Type 0 where
+  pub small : SmallSets y
+  pub sound : (j v : ℕ) → j < 4 → bit v (getD y j 0) ≡ true → SetSupport b s W j v
+  pub cells : (r j : ℕ) → r < 512 → j < 4 → isSet W s r ≡ true → bit (valueAt b s r j % 32) (getD y j 0) ≡ true
+
+-- every value of x with support has been seen, or every row's cell
+pub record SeenOr (b : List ℕ) (s : ℕ) (W x y : List ℕ) (all : Bool) : Type 0 where
+  pub covers : all ≡ true → Supported b s W x y
+  pub plain : all ≡ false → PlainSeen b s W y
+
+-- besides, y has every value of x with support at the places below n
+pub record Widened (b : List ℕ) (s : ℕ) (W x y : List ℕ) (n : ℕ) : Type 0 where
+  pub plain : PlainSeen b s W y
+  pub complete : (j v : ℕ) → j < n → bit v (getD x j 0) ≡ true → SetSupport b s W j v → bit v (getD y j 0) ≡ true
+
+-- the sheet has no 255 at place j, or every value of x is in y
+abbrev pub NothingMissed : ℕ → ℕ → ℕ → ℕ → Type 0
+NothingMissed shorts j x y = (bit (8 * j + 7) shorts ≡ false) ⊎ ((v : ℕ) → bit v x ≡ true → bit v y ≡ true)
+
+-- row r is set and has 255 at place j
+unfoldable pub anyAt : List ℕ → ℕ → List ℕ → ℕ → ℕ → Bool
+anyAt b s W j r = isSet W s r && isAny (valueAt b s r j)
 
 -- the sets x are the domains at the places below n
 pub record Wanted (b : List ℕ) (s : ℕ) (D : List ℕ) (n : ℕ) (x : List ℕ) : Type 0 where
@@ -152,13 +180,13 @@ pub record Struck (b : List ℕ) (s : ℕ) (W D D′ : List ℕ) (lost : ℕ) : 
   pub left : (j v : ℕ) → j < widthOf b s → has D′ (columnOf b s j) v ≡ true → SetSupport b s W j v
 
 -- ---- the rows while a sheet is looked at
--- every row that is valid in D is set; a row that is set is a row of the sheet, with values in the domains of all columns but those in
+-- every row that is valid in D is set; a row that is set is a row of the sheet, with cells in the domains of all columns but those in
 -- `changed`, which the sheet has not looked at since they lost a value
 pub record RowsKnown (b : List ℕ) (s changed : ℕ) (D W X N : List ℕ) : Type 0 where
   pub words : SheetWords b s W X N
   pub all : (r : ℕ) → r < 512 → validRow D (sheetAt (bookOf b) s) r ≡ true → isSet W s r ≡ true
   pub seen : (r j : ℕ) → r < 512 → isSet W s r ≡ true → j < widthOf b s → bit (columnOf b s j) changed ≡ false
-      → has D (columnOf b s j) (valueAt b s r j) ≡ true
+      → inDomain (valueAt b s r j) (getD D (columnOf b s j) 0) ≡ true
 
 -- each value of each column of the sheet has support
 pub record AllSupported (b : List ℕ) (s : ℕ) (D W : List ℕ) : Type 0 where

@@ -8,7 +8,7 @@ ghost use lib.ListN.{getD};
 ghost use Rattle.heads.specs.Heads.{widthOf};
 ghost use Rattle.words.specs.Sheets.{AtSheet, SheetWords, WordCut, CutBy, valueIn, passesAt, passesBelow};
 
-// The word at position p of the index of sheet s, cut to the rows whose value at place j is in d. Whether a row was cut.
+// The word at position p of the index of sheet s, cut to the rows whose cell at place j is in d. Whether a row was cut.
 fn cut_word(
     book: &[u8],
     begin: usize,
@@ -38,7 +38,7 @@ fn cut_word(
     true
 }
 
-// The rows of sheet s cut to those whose value at place j is in d. Whether a row was cut.
+// The rows of sheet s cut to those whose cell at place j is in d. Whether a row was cut.
 fn cut(
     book: &[u8],
     begin: usize,

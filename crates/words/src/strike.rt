@@ -6,7 +6,7 @@ ghost use Prim.Native.Nat.{_<_};
 ghost use lib.ListN.{replicate};
 ghost use Rattle.model.specs.Stores.{IsStore};
 ghost use Rattle.heads.specs.Heads.{widthOf};
-ghost use Rattle.words.specs.Sheets.{AtSheet, IsSheet, SheetWords, Sized, Wanted, StruckPlace, StruckTo, Struck};
+ghost use Rattle.words.specs.Sheets.{AtSheet, IsSheet, SheetWords, ShortPlaces, Sized, Wanted, StruckPlace, StruckTo, Struck};
 ghost use Rattle.words.specs.Looks.{Revised, SheetKnown};
 
 // The domain of each place of sheet s; of a place that is not used, 0 alone, which is what every row has there.
@@ -60,18 +60,19 @@ fn strike(
     book: &[u8],
     begin: usize,
     s: usize,
+    shorts: u32,
     dom: &mut [u32; 16],
     valid: &[u64; 64],
     index: &[u8; 64],
     nonzero: &[u8; 8],
 ) -> u32
-    requires { ⌜ AtSheet (now book) begin s × SheetWords (now book) s (now valid) (now index) (now nonzero) × IsStore 16 (now dom) ⌝ }
+    requires { ⌜ AtSheet (now book) begin s × SheetWords (now book) s (now valid) (now index) (now nonzero) × IsStore 16 (now dom) × ShortPlaces (now book) s shorts ⌝ }
     ensures { λ r. ⌜ Struck (now (book .entry)) s (now (valid .entry)) (now (dom .entry)) (now (dom .exit)) r ⌝ }
 {
     let mut x = [1u32; 4];
     let mut y = [0u32; 4];
     wanted(book, s, dom, &mut x);
-    supported(book, begin, s, &x, &mut y, valid, index, nonzero);
+    supported(book, begin, s, shorts, &x, &mut y, valid, index, nonzero);
     strike_to(book, s, &y, dom)
 }
 
@@ -86,6 +87,7 @@ pub fn revise(
     book: &[u8],
     begin: usize,
     s: usize,
+    shorts: u32,
     changed: u32,
     opening: bool,
     dom: &mut [u32; 16],
@@ -93,7 +95,7 @@ pub fn revise(
     index: &mut [u8; 64],
     nonzero: &mut [u8; 8],
 ) -> Revision
-    requires { ⌜ AtSheet (now book) begin s × SheetKnown (now book) s changed opening (now dom) (now valid) (now index) (now nonzero) × Sized (now valid) (now index) (now nonzero) × IsStore 16 (now dom) ⌝ }
+    requires { ⌜ AtSheet (now book) begin s × SheetKnown (now book) s changed opening (now dom) (now valid) (now index) (now nonzero) × Sized (now valid) (now index) (now nonzero) × IsStore 16 (now dom) × ShortPlaces (now book) s shorts ⌝ }
     ensures { λ r. ⌜ Revised (now (book .entry)) s (now (dom .entry)) (now (valid .entry)) (now (index .entry)) (now (nonzero .entry)) (now (dom .exit)) (now (valid .exit)) (now (index .exit)) (now (nonzero .exit)) (r .satisfied) (r .lost) ⌝ }
 {
     if cut_places(book, begin, s, changed, opening, dom, valid, index, nonzero) {
@@ -103,7 +105,7 @@ pub fn revise(
                 lost: 0,
             };
         }
-        let lost = strike(book, begin, s, dom, valid, index, nonzero);
+        let lost = strike(book, begin, s, shorts, dom, valid, index, nonzero);
         return Revision {
             satisfied: true,
             lost: lost,

@@ -23,7 +23,6 @@ mod race;
 mod subjects;
 mod timed;
 
-use gecode::Tables;
 use measurement::{Kind, Measurement};
 use page::Page;
 use std::path::{Path, PathBuf};
@@ -107,7 +106,7 @@ fn options(mut arguments: impl Iterator<Item = String>) -> Option<(bool, Option<
 fn measured(subjects: &[Subject], effort: &Effort) -> Vec<Measurement> {
     eprintln!("compared: what all show");
     agree::on_seeds(effort);
-    let tables: Vec<_> = subjects.iter().map(|it| Tables::of(&it.book)).collect();
+    let tables: Vec<_> = subjects.iter().map(Subject::tables).collect();
     for (subject, tables) in subjects.iter().zip(&tables) {
         agree::on_subject(subject, tables.as_ref());
     }

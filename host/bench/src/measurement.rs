@@ -40,13 +40,15 @@ pub enum Opponent {
     Packed,
     Gecode,
     GecodeWithTables,
+    /// The library itself, on the same book with a value in place of each 255.
+    Plain,
 }
 
 impl Opponent {
     /// All of them, in the order of the table.
-    pub const ALL: [Self; 4] = {
+    pub const ALL: [Self; 5] = {
         use Opponent::*;
-        [Hand, Packed, Gecode, GecodeWithTables]
+        [Hand, Packed, Gecode, GecodeWithTables, Plain]
     };
 }
 

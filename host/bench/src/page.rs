@@ -35,6 +35,7 @@ impl Page<'_> {
         fill("against hand", &self.against(Opponent::Hand));
         fill("against packed", &self.against(Opponent::Packed));
         fill("against Gecode", &self.against(Opponent::Gecode));
+        fill("against plain", &self.against(Opponent::Plain));
         for kind in Kind::ALL {
             fill(&format!("slower {}", kind.title()), &self.slower(kind));
         }
@@ -103,14 +104,14 @@ impl Page<'_> {
 }
 
 const HEAD: &str = "\
-| book                           | library | / hand-optimised | / packed | / Gecode | / Gecode + tables | outcome                                |
-|--------------------------------|--------:|-----------------:|---------:|---------:|------------------:|----------------------------------------|
+| book                           | library | / hand-optimised | / packed | / Gecode | / Gecode + tables | / plain | outcome                                |
+|--------------------------------|--------:|-----------------:|---------:|---------:|------------------:|--------:|----------------------------------------|
 ";
 
 fn line(book: &str, library: &str, ratios: [String; Opponent::ALL.len()], note: &str) -> String {
-    let [hand, packed, gecode, with_tables] = ratios;
+    let [hand, packed, gecode, with_tables, plain] = ratios;
     format!(
-        "| {book:30} | {library:>7} | {hand:>16} | {packed:>8} | {gecode:>8} | {with_tables:>17} | {note:38} |\n"
+        "| {book:30} | {library:>7} | {hand:>16} | {packed:>8} | {gecode:>8} | {with_tables:>17} | {plain:>7} | {note:38} |\n"
     )
 }
 
@@ -125,7 +126,7 @@ mod tests {
             book: book.into(),
             note: String::new(),
             library: 100.0,
-            others: [Some(hand), None, Some(30_000.0), Some(-1.0)],
+            others: [Some(hand), None, Some(30_000.0), Some(-1.0), Some(80.0)],
             rounds: 301,
         };
         let rows = |kind| [row(kind, "easy", 110.0), row(kind, "hard", 50.0)];
@@ -139,7 +140,10 @@ mod tests {
         assert!(!text.contains(['{', '}']), "{text}");
         assert_eq!(text.matches("\n| easy ").count(), 7);
         let ratios: String = text.split_whitespace().collect();
-        assert!(ratios.contains("|hard|100ns|2.00|-|0.003|-||"), "{ratios}");
+        assert!(
+            ratios.contains("|hard|100ns|2.00|-|0.003|-|1.25||"),
+            "{ratios}"
+        );
         let width = |line: &str| line.chars().count();
         let widths: Vec<usize> = page.table().lines().map(width).collect();
         assert!(widths.iter().all(|width| *width == widths[0]));

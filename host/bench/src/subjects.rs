@@ -1,11 +1,12 @@
 //! The books that are timed, and the lists that are timed on them.
 
+use crate::gecode::Tables;
 use crate::hard;
 use crate::measurement::{thousands, Kind};
 use crate::opponents::{finish, Packed};
 use conformance::{
     all_values, back, harbour, mend, narrow, plant, regular, write, Book, Order, Random, Sheet,
-    BLOCK, FINISH, MARK,
+    ANY, BLOCK, FINISH, MARK,
 };
 
 /// As many of mark, narrow and back as a list has room for.
@@ -21,6 +22,8 @@ pub struct Subject {
     pub size: String,
     pub book: Vec<u8>,
     pub kinds: &'static [Kind],
+    /// The same book without 255, where this one has short rows.
+    pub plain: Option<Vec<u8>>,
     /// Narrows that cut rows and leave the session alive.
     narrows: Vec<Order>,
 }
@@ -36,8 +39,34 @@ impl Subject {
                 CHECKED => vec![],
                 _ => narrows(book, &bytes),
             },
+            plain: None,
             book: bytes,
         }
+    }
+
+    /// This book with 255 in one cell of so many in a hundred of its rows; the narrows are the same.
+    fn short(name: &str, book: &Book, percent: usize) -> Self {
+        let mut short = book.clone();
+        let random = &mut Random::new(percent as u64);
+        for row in short.sheets.iter_mut().flat_map(|sheet| &mut sheet.rows) {
+            if random.below(100) < percent {
+                let place = random.below(row.len());
+                row[place] = ANY;
+            }
+        }
+        let plain = Self::new(&format!("{name}, {percent} % short"), book, SHORT);
+        Self {
+            size: format!("{}; 255 in {percent} % of the rows", plain.size),
+            book: write(&short),
+            plain: Some(plain.book),
+            ..plain
+        }
+    }
+
+    /// Gecode's tables of it, where it is there. It knows plain books alone.
+    pub fn tables(&self) -> Option<Tables<'_>> {
+        let plain = self.plain.is_none();
+        plain.then(|| Tables::of(&self.book)).flatten()
     }
 
     /// The lists that are run to time this kind.
@@ -57,6 +86,7 @@ impl Subject {
 }
 
 const CHECKED: &[Kind] = &[Kind::Check];
+const SHORT: &[Kind] = &[Kind::Check, Kind::Opening, Kind::Narrow];
 
 /// Every book that is timed.
 pub fn subjects() -> Vec<Subject> {
@@ -81,6 +111,13 @@ pub fn subjects() -> Vec<Subject> {
     // 18 is no power of two: the rows joined by `|` do not settle it alone.
     add("full, 18 values", full(18, 4), CHECKED);
     all.extend(spoilt(&full(32, 4)));
+    for percent in [5, 30] {
+        let mut add = |name: &str, book| all.push(Subject::short(name, &book, percent));
+        add("medium, 12 columns", planted(medium_of_12()));
+        for width in 2..=4 {
+            add(&format!("full, width {width}"), planted(full(32, width)));
+        }
+    }
     all
 }
 

@@ -56,9 +56,10 @@ pub fn measure(
         },
         parts: (lists.len() * turns) as f64,
     };
-    let mut contenders = match kind {
-        Kind::Check => checks(work, &subject.book),
-        _ => runs(work, &subject.book),
+    let mut contenders = match (&subject.plain, kind) {
+        (Some(plain), _) => by_itself(kind, work, &subject.book, plain),
+        (None, Kind::Check) => checks(work, &subject.book),
+        (None, _) => runs(work, &subject.book),
     };
     contenders.extend(gecode.into_iter().flat_map(|it| by_gecode(kind, work, it)));
     let (who, jobs): (Vec<_>, Vec<_>) = contenders.into_iter().unzip();
@@ -99,8 +100,25 @@ thread_local! {
         const { RefCell::new(Space { answers: [0; _], shown: [NOTHING; _] }) };
 }
 
-/// Runs over a plain book. For one that isn't plain the library would be its own opponent, on the same
-/// book written out in plain rows.
+/// Of a book that isn't plain the library is its own opponent, on one that is.
+fn by_itself<'a>(
+    kind: Kind,
+    work: Work<'a>,
+    book: &'a [u8],
+    plain: &'a [u8],
+) -> Vec<Contender<'a>> {
+    let of = |book| match kind {
+        Kind::Check => checks(work, book),
+        _ => runs(work, book),
+    };
+    let library = |book| of(book).swap_remove(0).1;
+    vec![
+        (None, library(book)),
+        (Some(Opponent::Plain), library(plain)),
+    ]
+}
+
+/// Runs over a plain book; the library comes first.
 fn runs<'a>(work: Work<'a>, book: &'a [u8]) -> Vec<Contender<'a>> {
     let by = |who, run: fn(&[u8], &[u8], &mut Space) -> u64| {
         work.by(who, move |list| {

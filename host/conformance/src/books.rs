@@ -1,7 +1,7 @@
 //! Described books: the ones that have a name, and any other from a seed.
 
 use crate::{kit, Random};
-use reference::{Book, Sheet};
+use reference::{Book, Sheet, ANY};
 
 /// Row counts at which the number of blocks changes, or the last row of a block is used.
 const BLOCK_EDGES: [usize; 13] = [0, 1, 126, 127, 128, 253, 254, 255, 380, 381, 382, 507, 508];
@@ -45,7 +45,7 @@ pub fn any_book(random: &mut Random) -> Book {
     };
     // How many in 4 of a large book's sheets surely have four blocks.
     let filled = random.within(0..=4);
-    with_sheets(random, counts, sheets, |random| {
+    let book = with_sheets(random, counts, sheets, |random| {
         let rows = match size {
             0..=2 => random.within(0..=6),
             3..=6 => random.within(0..=40),
@@ -54,7 +54,8 @@ pub fn any_book(random: &mut Random) -> Book {
             _ => random.within(0..=508),
         };
         (rows, random.within(1..=columns.min(4)))
-    })
+    });
+    shortened(random, book)
 }
 
 /// Up to three columns of up to four values, up to three sheets of up to eight rows.
@@ -62,9 +63,10 @@ pub(crate) fn tiny_book(random: &mut Random) -> Book {
     let columns = random.within(1..=3);
     let counts: Vec<u8> = (0..columns).map(|_| random.within(1..=4) as u8).collect();
     let sheets = random.within(0..=3);
-    with_sheets(random, counts, sheets, |random| {
+    let book = with_sheets(random, counts, sheets, |random| {
         (random.within(0..=8), random.within(1..=columns))
-    })
+    });
+    shortened(random, book)
 }
 
 /// Columns that several sheets share, and few rows for each value of a column: a value that goes
@@ -77,17 +79,19 @@ pub(crate) fn small_book(random: &mut Random) -> Book {
         .collect();
     let rows_of_a_value = random.within(1..=8);
     let sheets = random.within(1..=8);
-    with_sheets(random, counts, sheets, |random| {
+    let book = with_sheets(random, counts, sheets, |random| {
         let rows = random.within(1..=most * rows_of_a_value);
         (rows, random.within(1..=columns.min(4)))
-    })
+    });
+    shortened(random, book)
 }
 
 /// Sixteen columns of 32 values, eight sheets of 508 rows, of any widths.
 pub(crate) fn largest_book(random: &mut Random) -> Book {
-    with_sheets(random, vec![32; 16], 8, |random| {
+    let book = with_sheets(random, vec![32; 16], 8, |random| {
         (508, random.within(1..=4))
-    })
+    });
+    shortened(random, book)
 }
 
 /// Columns in a ring, each as the one before it says, and the last one more than the first: a value
@@ -117,7 +121,8 @@ pub(crate) fn ring(random: &mut Random) -> (Book, Vec<u8>) {
     sheets.push(pairs(random, 0, columns - 1, rows, times));
     random.shuffle(&mut sheets);
     let counts = vec![count as u8; columns];
-    (Book { counts, sheets }, vec![held as u8; columns])
+    let book = shortened(random, Book { counts, sheets });
+    (book, vec![held as u8; columns])
 }
 
 /// Columns of two values or three, and sheets of two columns whose values must differ: every value
@@ -136,7 +141,7 @@ pub(crate) fn differing(random: &mut Random) -> (Book, Vec<u8>) {
         sheets.push(pairs(random, first, second, rows.clone(), 1));
     }
     let counts = vec![count as u8; columns];
-    let book = Book { counts, sheets };
+    let book = shortened(random, Book { counts, sheets });
     let aim = any_set(random, &book);
     (book, aim)
 }
@@ -186,6 +191,27 @@ fn count(random: &mut Random) -> u8 {
         1 => 32,
         _ => random.within(1..=32) as u8,
     }
+}
+
+/// The book with any in some of its cells: in none in one case of two, in up to three, or in up to an
+/// eighth or a half of all. Nothing else that is drawn goes by it.
+fn shortened(random: &Random, mut book: Book) -> Book {
+    let random = &mut random.beside();
+    let rows = book.sheets.iter_mut().flat_map(|sheet| &mut sheet.rows);
+    let mut cells: Vec<&mut u8> = rows.flatten().collect();
+    let count = match random.below(8) {
+        0..=3 => 0,
+        4..=5 => random.within(1..=3),
+        6 => cells.len() / 8,
+        _ => cells.len() / 2,
+    };
+    for _ in 0..count {
+        let place = random.below(cells.len());
+        if let Some(cell) = cells.get_mut(place) {
+            **cell = ANY;
+        }
+    }
+    book
 }
 
 /// A book of these columns' values and so many seeded sheets, each of the rows and the width that it gets.

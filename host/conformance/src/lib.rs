@@ -3,7 +3,8 @@
 //! [`write()`] turns a described [`Book`] into bytes with right checks; [`row_bytes`] says what those
 //! of its rows may be; [`Region`] damages them; [`Case`] is one seeded input; [`agreed`] compares the
 //! two answers. [`Run`] is a seeded book with a list of orders and a space for the answers;
-//! [`agreed_run`] compares the two runs of it. The tests of this crate are the comparison itself.
+//! [`agreed_run`] compares the two runs of it. [`twin`] is a book with its short rows written out. The
+//! tests of this crate are the comparison itself.
 //! [`kit`] is the conformance kit for other people's software, and [`wrong`] is wrong software to try
 //! the kit on.
 
@@ -20,6 +21,7 @@ mod region;
 mod rows;
 mod run;
 mod seen;
+mod short;
 mod steps;
 mod tally;
 mod write;
@@ -31,11 +33,12 @@ pub use compare::{agreed, agreed_run, compare, compare_run, Calls, FENCE, LIBRAR
 pub use orders::{any_list, back, example_orders, narrow, searches, FINISH, MARK, NO_KIND};
 pub use program::{program, Folder};
 pub use random::Random;
-pub use reference::{all_values, space_for, Book, Order, Sheet, BLOCK, ROWS_OF_A_BLOCK};
+pub use reference::{all_values, space_for, Book, Order, Sheet, ANY, BLOCK, ROWS_OF_A_BLOCK};
 pub use region::Region;
 pub use rows::{row_bytes, RowByte};
 pub use run::{Run, Shape};
 pub use seen::Seen;
+pub use short::{count_short, has_short_rows, twin};
 pub use steps::{count_steps, look_for_steps};
 pub use tally::Tally;
 pub use write::{changed, mend, mend_block, write, LONGEST};

@@ -12,6 +12,11 @@ impl Random {
         Self(seed)
     }
 
+    /// Another stream, which starts from where this one is; nothing is drawn from this one.
+    pub fn beside(&self) -> Self {
+        Self(self.clone().bits())
+    }
+
     /// The next 64 bits.
     pub fn bits(&mut self) -> u64 {
         self.0 = self.0.wrapping_add(0x9E37_79B9_7F4A_7C15);

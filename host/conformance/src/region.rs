@@ -6,6 +6,9 @@ use reference::Book;
 /// Bytes that are near some limit of the format.
 const NEAR_LIMITS: [u8; 16] = [0, 1, 2, 3, 4, 5, 8, 9, 16, 17, 32, 33, 252, 253, 254, 255];
 
+/// Any, bytes next to it, and others that are too large for a value.
+const NEAR_ANY: [u8; 9] = [255, 255, 255, 254, 254, 128, 128, 127, 32];
+
 /// A part of the format that damage aims at.
 #[derive(Clone, Copy, Debug, PartialEq, Eq, PartialOrd, Ord)]
 pub enum Region {
@@ -83,6 +86,9 @@ impl Region {
                 };
                 let value = match self {
                     Self::RowValue => row_value(random, whole[at]),
+                    Self::RowFiller | Self::UnusedRow if random.once_in(3) => {
+                        random.pick(&NEAR_ANY)
+                    }
                     _ => other_byte(random, whole[at]),
                 };
                 // Damage before this may have cut the byte off.
@@ -150,10 +156,14 @@ fn other_byte(random: &mut Random, old: u8) -> u8 {
     }
 }
 
-/// Another row value: more often than by chance one that is small, as V is.
+/// Another row value: more often than by chance one that is small, as V is, or near any.
 fn row_value(random: &mut Random, old: u8) -> u8 {
-    let value = random.within(0..=33) as u8;
-    if value == old || random.once_in(4) {
+    let value = match random.below(8) {
+        0 => old,
+        1..=2 => random.pick(&NEAR_ANY),
+        _ => random.within(0..=33) as u8,
+    };
+    if value == old {
         other_byte(random, old)
     } else {
         value

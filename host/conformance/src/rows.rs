@@ -1,6 +1,6 @@
 //! The bytes of a book's rows: where each stands, and what it may be.
 
-use crate::{refused, Book, Region, BLOCK, ROWS_OF_A_BLOCK};
+use crate::{refused, Book, Region, ANY, BLOCK, ROWS_OF_A_BLOCK};
 
 /// One byte of a sheet's blocks; those of the checks are none.
 #[derive(Clone, Copy, Debug)]
@@ -11,11 +11,16 @@ pub struct RowByte {
     pub sheet: usize,
     /// What it is: a row value, row filler, or of an unused row.
     pub region: Region,
-    /// The lowest number that is too large for it: its column's V, or 1 where it must be zero.
+    /// The lowest number that is wrong in it: its column's V, or 1 where it must be zero.
     pub limit: u8,
 }
 
 impl RowByte {
+    /// Whether it may be this: below its limit, or any in the place of a value.
+    pub fn may_be(&self, byte: u8) -> bool {
+        byte < self.limit || (self.region == Region::RowValue && byte == ANY)
+    }
+
     /// Refusal 5 for a value, 6 for a byte that must be zero.
     pub fn refusal(&self) -> u64 {
         match self.region {

@@ -75,13 +75,13 @@ fn changes_of_the_harbour_head() {
 fn changes_of_the_harbour_rows() {
     let changes = [
         ("512=2 513=1 524=2 525=1 1024=1 1033=1", 50),
-        ("512=3 512=255 513=2 513=255", refused(5, 128)),
+        ("512=3 512=254 513=2 513=254", refused(5, 128)),
         ("514=1 515=1 515=255", refused(6, 128)),
         ("524=3 525=2", refused(5, 131)),
         ("526=1 527=1", refused(6, 131)),
         ("528=1 528=3 529=2 531=1", refused(6, 132)),
         ("1016=1 1019=1 1019=255", refused(6, 254)),
-        ("1024=2 1025=2 1025=255", refused(5, 256)),
+        ("1024=2 1025=2 1025=254", refused(5, 256)),
         ("1026=1 1027=128", refused(6, 256)),
         ("1032=2 1033=2", refused(5, 258)),
         ("1034=1 1035=1", refused(6, 258)),
@@ -96,6 +96,51 @@ fn changes_of_the_harbour_rows() {
     each_gives(&harbour(), &changes);
 }
 
+/// "Refusal 5 lets 255 pass", in each value's place, and in no other; the bytes before it are too large
+/// whatever a signed byte or its lower bits would say. It hides no other fault.
+#[test]
+fn any_in_the_harbour_rows() {
+    let changes = [
+        ("512=255 513=255 512=255+513=255 525=255", 50),
+        ("1024=255 1025=255 1032=255 1033=255", 50),
+        ("512=254 513=254 512=128 512=127 513=32", refused(5, 128)),
+        (
+            "512=255+513=254 512=254+513=255 512=255+513=2",
+            refused(5, 128),
+        ),
+        ("514=255 515=255 512=255+514=255 514=254", refused(6, 128)),
+        ("512=255+513=255+515=1", refused(6, 128)),
+        ("525=254 524=255+525=254 521=255+525=254", refused(5, 131)),
+        ("526=255 527=255 524=255+525=255+526=255", refused(6, 131)),
+        ("528=255 529=255 530=255 531=255", refused(6, 132)),
+        ("525=255+528=255 528=254", refused(6, 132)),
+        ("1019=255 1019=255+1025=254", refused(6, 254)),
+        ("1025=254 512=255+1025=254", refused(5, 256)),
+        ("1531=255 1025=255+1531=255", refused(6, 382)),
+        // With 3 rows said, the fourth is an unused one; with 5, the one after it is used.
+        ("30=3+524=255", refused(6, 131)),
+        ("30=5+528=255 30=5+529=255", 50),
+        ("30=5+530=255", refused(6, 132)),
+    ];
+    each_gives(&harbour(), &changes);
+}
+
+/// Of a column of 1 value and of one of 32, on both sides of a check.
+#[test]
+fn any_whatever_the_values() {
+    for values in [1, 32] {
+        let changes = [
+            ("512=255 1016=255 1024=255 1016=255+1024=255", 17),
+            ("1016=254 1016=254+1024=255", refused(5, 254)),
+            ("1024=254 1016=255+1024=254", refused(5, 256)),
+            ("1017=255 1016=255+1017=255", refused(6, 254)),
+            ("1025=255 1024=255+1025=255", refused(6, 256)),
+            ("1028=255 1024=255+1028=255", refused(6, 257)),
+        ];
+        each_gives(&regular(1, values, 1, 128, 1), &changes);
+    }
+}
+
 /// Two faults of rows in one book: the first in the file counts, whichever it is. In one row the
 /// values come first; sheet 1 begins in another block.
 #[test]
@@ -103,7 +148,7 @@ fn two_faults_of_harbour_rows() {
     let changes = [
         ("512=3+513=2 512=3+515=1 513=2+514=1", refused(5, 128)),
         ("514=1+515=1", refused(6, 128)),
-        ("517=2+520=3 517=2+522=1 517=255+523=1", refused(5, 129)),
+        ("517=2+520=3 517=2+522=1 517=254+523=1", refused(5, 129)),
         ("518=1+520=3 518=1+521=2 519=1+522=1", refused(6, 129)),
         ("525=2+528=1 525=2+529=2", refused(5, 131)),
         ("527=1+528=1 527=1+528=3", refused(6, 131)),
@@ -123,7 +168,7 @@ fn two_faults_on_both_sides_of_a_check() {
     let changes = [
         ("1016=31+1024=31", 17),
         ("1016=32+1024=32 1016=32+1025=1", refused(5, 254)),
-        ("1017=1+1024=32 1019=1+1024=255", refused(6, 254)),
+        ("1017=1+1024=32 1019=1+1024=254", refused(6, 254)),
         ("1017=1+1027=1 1019=255+1028=1", refused(6, 254)),
         ("1024=32+1025=1 1024=32+1028=32", refused(5, 256)),
         ("1025=1+1028=32", refused(6, 256)),
@@ -181,12 +226,15 @@ fn sums_past_32_bits() {
             assert_eq!(agreed(&bytes), refused(3, 0), "{blocks} of {value}");
         }
     }
-    // A right head, then blocks whose sums wrap: 5 where they are needed, 4 where they aren't.
+    // A right head, then blocks whose sums wrap. Where they are needed, 254 gives 5 and a row that is all
+    // any is right; where they aren't, 4.
     for blocks in 1..=32 {
-        let mut bytes = write(&regular(16, 32, 8, 508, 4));
-        bytes[BLOCK..(1 + blocks) * BLOCK].fill(0xFF);
-        mend(&mut bytes);
-        assert_eq!(agreed(&bytes), refused(5, 128));
+        for (byte, number) in [(0xFE, refused(5, 128)), (0xFF, 264)] {
+            let mut bytes = write(&regular(16, 32, 8, 508, 4));
+            bytes[BLOCK..(1 + blocks) * BLOCK].fill(byte);
+            mend(&mut bytes);
+            assert_eq!(agreed(&bytes), number, "{blocks} of {byte}");
+        }
         let mut tail = write(&tiny());
         tail.resize((1 + blocks) * BLOCK, 0xFF);
         mend(&mut tail);

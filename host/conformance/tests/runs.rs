@@ -3,7 +3,7 @@
 //!
 //! `FITTING_SESSIONS` asks for more of them than the usual number.
 
-use conformance::{agreed_run, asked, count_steps, look_for_steps, show, space_for};
+use conformance::{agreed_run, asked, count_short, count_steps, look_for_steps, show, space_for};
 use conformance::{Random, Run, Seen, Shape::*, Tally};
 use reference::{book_refusals, run_refusals};
 use std::panic;
@@ -46,8 +46,9 @@ fn answers(seed: u64, tally: &mut Tally) -> Vec<Seen> {
     let accepted = answers[1..].iter().filter(|answer| answer.refusal == 0);
     assert_eq!(accepted.count() as u64, number, "seed {seed}");
     prefix_runs_alike(seed, &run, &space);
-    let counts = &run.book[8..8 + usize::from(run.book[4])];
-    count_steps(tally, counts, run.orders.as_chunks().0, &answers);
+    let book = reference::decode(&run.book).expect("an accepted book");
+    count_steps(tally, &book.counts, run.orders.as_chunks().0, &answers);
+    count_short(tally, &book, &answers);
     answers
 }
 

@@ -2,9 +2,9 @@
 //!
 //! `FITTING_CASES` asks for more of them than the usual number.
 
-use conformance::{agreed, asked, refused, show, spelled};
-use conformance::{Book, Case, Mend, Region, Sheet, Tally, BLOCK};
-use reference::{book_refusals, row_faults, RowFault};
+use conformance::{agreed, asked, has_short_rows, refused, show, spelled};
+use conformance::{Book, Case, Mend, Region, Sheet, Tally, ANY, BLOCK};
+use reference::{book_refusals, decode, row_faults, RowFault};
 use std::panic;
 
 /// The agreed answer; a difference is told with the seed and the damage.
@@ -31,7 +31,7 @@ fn read(book: fitting::Book) -> Book {
 /// The typed check of `fitting` gives this number, and reads an accepted book as the reference does.
 fn typed_alike(seed: u64, bytes: &[u8], number: u64) {
     match fitting::check(bytes) {
-        Ok(book) => assert_eq!(Some(read(book)), reference::decode(bytes), "seed {seed}"),
+        Ok(book) => assert_eq!(Some(read(book)), decode(bytes), "seed {seed}"),
         Err(refusal) => {
             let given = refused(refusal.number(), refusal.place().into());
             assert_eq!(given, number, "seed {seed}");
@@ -76,6 +76,44 @@ fn first_faults(faults: &[RowFault]) -> String {
     format!("rows with a {first}, then a {second} in {apart}")
 }
 
+/// Counts what short rows, and bytes near any, do to a book.
+fn count_near_any(tally: &mut Tally, bytes: &[u8], refusal: u64) {
+    let short = decode(bytes).is_some_and(|book| has_short_rows(&book));
+    let first = row_faults_of(bytes, refusal)
+        .first()
+        .map(|&(_, at)| bytes[at]);
+    for (words, holds) in [
+        ("near any: accepted, with short rows", short),
+        ("near any: accepted, without", refusal == 0 && !short),
+        (
+            "near any: refusal 5 for 254",
+            refusal == 5 && first == Some(254),
+        ),
+        (
+            "near any: refusal 5 for 128",
+            refusal == 5 && first == Some(128),
+        ),
+        (
+            "near any: refusal 6 for 254",
+            refusal == 6 && first == Some(254),
+        ),
+        (
+            "near any: refusal 6 for 255",
+            refusal == 6 && first == Some(ANY),
+        ),
+    ] {
+        tally.add(words, holds.into());
+    }
+}
+
+/// The faults of the rows; none of a book that is not refused for them.
+fn row_faults_of(bytes: &[u8], refusal: u64) -> Vec<RowFault> {
+    match refusal {
+        5 | 6 => row_faults(bytes),
+        _ => Vec::new(),
+    }
+}
+
 /// What is looked for, so far seen 0 times: the places, and each refusal and each region hit alone, with and
 /// without mended checks.
 fn looked_for() -> [Tally; 2] {
@@ -107,9 +145,10 @@ fn every_number_agrees() {
         count_places(&mut places, number, 1);
         let refusal = number / 65_536;
         tally.add(&format!("refusal {refusal}"), 1);
-        if refusal == 5 || refusal == 6 {
-            rows.add(&first_faults(&row_faults(&case.bytes)), 1);
+        if let faults @ [_, ..] = &*row_faults_of(&case.bytes, refusal) {
+            rows.add(&first_faults(faults), 1);
         }
+        count_near_any(&mut tally, &case.bytes, refusal);
         match case.damaged.as_deref() {
             Some([]) => assert_eq!(refusal, 0, "seed {seed} is a right book"),
             Some([region]) => tally.add(&damage(*region, case.mend == Mend::AtTheEnd), 1),

@@ -2,7 +2,7 @@
 
 use conformance::{
     agreed, any_book, harbour, mend, mend_block, refused, regular, row_bytes, show, tiny, write,
-    Book, Random, Region, RowByte, Sheet, Tally, BLOCK, LONGEST, ROWS_OF_A_BLOCK,
+    Book, Random, Region, RowByte, Sheet, Tally, ANY, BLOCK, LONGEST, ROWS_OF_A_BLOCK,
 };
 use reference::book_refusals;
 use std::collections::BTreeSet;
@@ -119,7 +119,7 @@ fn every_byte_of_harbour_as_every_other() {
             assert_eq!(agreed(&bytes), refused(2, at / BLOCK), "at {at}");
             let number = agreed_with(&mut bytes, at, value);
             if let Some(byte) = of_a_row {
-                let right = value < byte.limit;
+                let right = byte.may_be(value);
                 let expected = if right { 50 } else { byte.refused() };
                 assert_eq!(number, expected, "{value} in {byte:?}");
             }
@@ -185,6 +185,30 @@ fn every_row_byte_at_its_limit() {
     assert!(given.into_iter().eq(numbers), "every place of 5 and of 6");
 }
 
+/// Of two books that have every row with and without a zero after its values: any passes for a value, and
+/// is 6 for a zero, at its own place; the byte before it is too large for either.
+#[test]
+fn every_row_byte_as_any() {
+    let [mut passed, mut filler] = [0; 2];
+    for book in [longest_from(1), longest_from(2)] {
+        let mut bytes = write(&book);
+        for byte in row_bytes(&book) {
+            let number = agreed_with(&mut bytes, byte.at, 254);
+            assert_eq!(number, byte.refused(), "{byte:?}");
+            let number = agreed_with(&mut bytes, byte.at, ANY);
+            if byte.region == Region::RowValue {
+                assert_eq!(number, 264, "{byte:?}");
+                passed += 1;
+            } else {
+                assert_eq!(number, refused(6, byte.at / 4), "{byte:?}");
+                filler += 1;
+            }
+        }
+    }
+    // Of the widths 1 to 4 there are four sheets each.
+    assert_eq!((passed, filler), (4 * 10 * 508, 4 * 6 * 508));
+}
+
 #[test]
 fn every_byte_of_unused_rows() {
     let book = shorter(&[1, 126, 128, 200, 254, 255, 381, 383]);
@@ -193,7 +217,7 @@ fn every_byte_of_unused_rows() {
     unused.retain(|byte| byte.region == Region::UnusedRow);
     assert_eq!(unused.len(), 4 * (126 + 1 + 126 + 54 + 126 + 125));
     for byte in unused {
-        for value in [1, 32, 255] {
+        for value in [1, 32, 254, ANY] {
             let number = agreed_with(&mut bytes, byte.at, value);
             assert_eq!(number, byte.refused(), "{value} in {byte:?}");
         }
@@ -225,7 +249,7 @@ fn every_pair_of_row_faults() {
         bytes[first.at] = first.limit;
         mend_block(&mut bytes, first.at / BLOCK);
         for second in &chosen[i + 1..] {
-            let number = agreed_with(&mut bytes, second.at, 255);
+            let number = agreed_with(&mut bytes, second.at, 254);
             assert_eq!(number, first.refused(), "{first:?}, {second:?}");
             let [one, other] = [first, second].map(RowByte::refusal);
             tally.add(&format!("{one}, then {other} {}", apart(first, second)), 1);

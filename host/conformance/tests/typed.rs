@@ -3,10 +3,12 @@
 use conformance::{
     any_book, harbour, mend, mend_block, refused, regular, row_bytes, space_for, write,
 };
-use conformance::{Random, Region, Run, Seen, Tally};
+use conformance::{Random, Region, RowByte, Run, Seen, Tally, ANY};
 use fitting::{
-    Answer, Answers, Book, Field, OrderList, Outcome, Refusal, RowPlace, Space, Status, Values,
+    Answer, Answers, Book, Cell, Field, OrderList, Outcome, Refusal, RowPlace, Space, Status,
+    Values,
 };
+use reference::lies_in;
 use std::panic;
 
 /// The answer once more, from what the view gives.
@@ -62,6 +64,23 @@ fn read_alike(answers: Answers, book: Book, expected: &[Seen]) {
             full_set
         );
     }
+    live_alike(answers.last(), book);
+}
+
+/// The rows that lie in the domains of an answer, by what their cells match, against the independent version's.
+fn live_alike(answer: Answer, book: Book) {
+    let domains: Vec<u32> = answer.domains().map(Values::mask).collect();
+    let decoded = reference::decode(book.bytes()).expect("an accepted book");
+    for (sheet, decoded) in book.sheets().zip(&decoded.sheets) {
+        for row in sheet.rows() {
+            let mut cells = sheet.columns().iter().zip(row);
+            let live = cells.all(|(&column, &byte)| {
+                let matched = Cell::from(byte).matched(answer.domain(column));
+                !matched.is_empty()
+            });
+            assert_eq!(live, lies_in(decoded, row, &domains));
+        }
+    }
 }
 
 /// The typed run of these bytes, by both ways, against the independent version's; what came of it, in
@@ -116,12 +135,13 @@ fn seeded_runs_read_alike() {
 }
 
 /// The refusal of a book whose rows alone were damaged, against their first byte that is at fault by the book
-/// as it was described. What that byte is, if there is one.
-fn named_row(book: &conformance::Book, bytes: &[u8]) -> Option<Region> {
+/// as it was described. What that byte is, in words.
+fn named_row(book: &conformance::Book, bytes: &[u8]) -> String {
     let rows = row_bytes(book);
-    let Some(first) = rows.iter().position(|byte| bytes[byte.at] >= byte.limit) else {
+    let Some(first) = rows.iter().position(|byte| !byte.may_be(bytes[byte.at])) else {
         assert!(fitting::check(bytes).is_ok());
-        return None;
+        let any = rows.iter().any(|byte| bytes[byte.at] == ANY);
+        return format!("none, {} any", if any { "with" } else { "without" });
     };
     let byte = &rows[first];
     let before = rows[..first].iter().filter(|it| it.sheet == byte.sheet);
@@ -149,14 +169,24 @@ fn named_row(book: &conformance::Book, bytes: &[u8]) -> Option<Region> {
     assert_eq!(fitting::check(bytes), Err(refusal));
     let found = RowPlace::of(bytes, place).and_then(|place| place.byte);
     assert_eq!(found, Some((byte.at % 4) as u8));
-    Some(byte.region)
+    format!("{:?}{}", byte.region, near_any(byte, bytes))
+}
+
+/// Words on 255 in a wrong byte, or before it in its row.
+fn near_any(byte: &RowByte, bytes: &[u8]) -> &'static str {
+    let before = &bytes[byte.at / 4 * 4..byte.at];
+    match bytes[byte.at] {
+        ANY => ", 255",
+        _ if before.contains(&ANY) => ", after any",
+        _ => "",
+    }
 }
 
 #[test]
 fn the_first_wrong_row_is_named() {
     let regions = [Region::RowValue, Region::RowFiller, Region::UnusedRow];
     let mut tally = Tally::default();
-    for seed in 0..10_000 {
+    for seed in 0..20_000 {
         let random = &mut Random::new(seed);
         let book = any_book(random);
         let whole = write(&book);
@@ -168,11 +198,11 @@ fn the_first_wrong_row_is_named() {
         mend(&mut bytes);
         let first = panic::catch_unwind(|| named_row(&book, &bytes));
         let first = first.unwrap_or_else(|_| panic!("seed {seed}"));
-        tally.add(&format!("{first:?}"), 1);
+        tally.add(&first, 1);
     }
     println!("{tally}");
-    assert_eq!(tally.kinds(), 4);
-    tally.assert_each_above(1_000);
+    assert_eq!(tally.kinds(), 9);
+    tally.assert_each_above(100);
 }
 
 /// Words that name the field at this place of a head, and how many bytes it has.

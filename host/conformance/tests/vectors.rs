@@ -33,7 +33,7 @@ fn the_files_are_what_the_reference_makes() {
     let mut found = Files::new();
     gather(&kit::folder(), "", &mut found);
     let bytes: usize = found.values().map(Vec::len).sum();
-    assert!(bytes < 768 * 1024, "{bytes} bytes");
+    assert!(bytes < 1024 * 1024, "{bytes} bytes");
     for name in OTHERS {
         assert!(found.remove(name).is_some(), "{name} is missing");
     }
@@ -87,8 +87,10 @@ fn the_library_and_the_program_agree_with_each() {
 /// What the papers' own examples print, by hand: K1 to K10 and the run of document 01, what stays after a
 /// finish, and document 002's walk-through. There every domain becomes {1, 2, 3, 4}, which is mask 30: 8 of
 /// 15 tuples are left, and none has 3 for x0; then x1 loses 1 and 2, 4 tuples are left, and x2 loses 3 and 4.
+/// With "any board" for motor 0 the harbour book prints document 01's run too. Of rows 0 any and 1 3, the short
+/// one goes with value 0; and any brings no value back that another sheet has struck.
 #[rustfmt::skip]
-const EXAMPLES: [(&str, &[&str]); 13] = [
+const EXAMPLES: [(&str, &[&str]); 16] = [
     ("k1-opening", &["0 0 1 0 0 0 7 3 3", "accepted 0"]),
     ("k2-width-4", &["0 0 1 0 0 0 7 3 3", "1 0 2 0 3 0 4 2 2", "accepted 1"]),
     ("k3-board-1", &["0 0 1 0 0 0 7 3 3", "1 0 1 0 3 0 3 1 1", "accepted 1"]),
@@ -110,6 +112,18 @@ const EXAMPLES: [(&str, &[&str]); 13] = [
     ("walk-through", &[
         "0 0 1 0 0 0 503 959 895", "1 0 1 0 0 0 22 62 286", "2 0 1 0 0 0 22 30 30", "3 0 1 0 0 0 22 30 30",
         "4 0 1 0 0 0 22 24 6", "5 0 1 0 0 1 2 8 4", "accepted 5",
+    ]),
+    ("any-board", &[
+        "0 0 1 0 0 0 7 3 3", "1 0 1 1 0 0 7 3 3", "2 0 1 1 3 0 3 1 1", "3 0 1 1 3 1 1 1 1",
+        "4 0 1 0 0 0 7 3 3", "5 24 1 0 0 0 7 3 3", "6 0 2 0 3 0 4 2 2", "accepted 5",
+    ]),
+    ("any-row-that-goes", &[
+        "0 0 1 0 0 0 3 15", "1 0 1 1 0 0 3 15", "2 0 2 1 1 0 2 8", "3 0 1 0 0 0 3 15", "4 0 1 0 1 0 1 7",
+        "5 0 0 0 0 0 0 0", "6 0 0 0 0 2 0 0", "accepted 6",
+    ]),
+    ("any-of-lost-values", &[
+        "0 0 1 0 1 0 1 6 3", "1 0 1 1 1 0 1 6 3", "2 0 2 1 3 0 1 4 1", "3 0 2 1 3 1 1 4 1", "4 0 1 0 1 0 1 6 3",
+        "5 0 1 0 3 0 1 4 3", "6 0 1 0 3 1 1 4 1", "accepted 6",
     ]),
 ];
 

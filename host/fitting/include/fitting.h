@@ -23,7 +23,8 @@ extern "C" {
  * The place of 5, a row value that is too large, and of 6, a byte of a row that must be zero and isn't, is
  * the offset of the first such byte in the book, divided by 4. A row has 4 bytes, so this is a row: row
  * place % 128 of block place / 128, both counted from 0. Block 0 is the head; after it each sheet in turn
- * has its blocks, with 127 rows in each.
+ * has its blocks, with 127 rows in each. 255 in the place of a value is not too large: it stands for all
+ * values of its column.
  */
 uint64_t fitting_check(const uint8_t *book, size_t book_len);
 

@@ -108,7 +108,8 @@ impl fmt::Debug for Book<'_> {
 
 /// A sheet of an accepted book: the columns it speaks of, and the rows of values that go together.
 ///
-/// Two are equal when they have the same columns, and the same rows in the same order.
+/// Two are equal when they have the same columns, and the same rows in the same order. A short row is not
+/// equal to the rows that it stands for.
 #[derive(Clone, Copy)]
 pub struct Sheet<'a> {
     columns: &'a [u8],
@@ -123,8 +124,10 @@ impl<'a> Sheet<'a> {
         self.columns
     }
 
-    /// The rows in the order of the book, 0 to 508 of them. A row has one value for each of the
-    /// sheet's columns, in their order. Rows may repeat.
+    /// The rows in the order of the book, 0 to 508 of them. Rows may repeat.
+    ///
+    /// A row has one byte for each of the sheet's columns, in their order: a value, or 255, which "stands
+    /// for all its values". [`Cell`](crate::Cell) tells them apart.
     pub fn rows(
         &self,
     ) -> impl ExactSizeIterator<Item = &'a [u8]> + DoubleEndedIterator + Clone + 'a {
@@ -132,10 +135,10 @@ impl<'a> Sheet<'a> {
         (0..sheet.rows).map(move |number| sheet.row(number).unwrap_or_default())
     }
 
-    /// The row of this number, counted from 0, if the sheet has it.
+    /// The row of this number, counted from 0, if the sheet has it; bytes as in [`rows`](Self::rows).
     pub fn row(&self, number: usize) -> Option<&'a [u8]> {
         if number < self.rows {
-            layout::values(self.blocks, number, self.columns.len())
+            layout::cells(self.blocks, number, self.columns.len())
         } else {
             None
         }

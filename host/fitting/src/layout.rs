@@ -118,8 +118,8 @@ fn blocks(entry: &[u8; ENTRY]) -> usize {
     usize::from(rows(entry)).div_ceil(ROWS_OF_A_BLOCK)
 }
 
-/// The values of a row, so many of them, in the blocks of its sheet.
-pub(crate) fn values(blocks: &[u8], row: usize, width: usize) -> Option<&[u8]> {
+/// The cells of a row, so many of them, in the blocks of its sheet.
+pub(crate) fn cells(blocks: &[u8], row: usize, width: usize) -> Option<&[u8]> {
     let (block, row) = (row / ROWS_OF_A_BLOCK, row % ROWS_OF_A_BLOCK);
     blocks.get(BLOCK * block + ROW * row..)?.get(..width)
 }

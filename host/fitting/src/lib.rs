@@ -9,6 +9,8 @@ mod book;
 #[forbid(unsafe_code)]
 mod calls;
 #[forbid(unsafe_code)]
+mod cell;
+#[forbid(unsafe_code)]
 mod field;
 #[forbid(unsafe_code)]
 mod field_name;
@@ -33,6 +35,7 @@ mod values;
 pub use answer::{Answer, AnswerIter, Answers, Outcome, Status};
 pub use book::{Book, Sheet};
 pub use calls::{check, run};
+pub use cell::Cell;
 pub use field::Field;
 pub use field_name::FieldName;
 pub use library::{check_number, run_number};

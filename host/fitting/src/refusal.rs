@@ -43,7 +43,8 @@ pub enum Refusal {
         /// The number of blocks that the book needs by its head.
         needed: u16,
     },
-    /// 5: a value in a row is too large. Nothing is wrong in the rows before it.
+    /// 5: a value in a row is too large; 255 is not, as it stands for all values of its column. Nothing is
+    /// wrong in the rows before it.
     Value {
         /// The place of the row in the book, as [`RowPlace`] has it.
         place: u16,

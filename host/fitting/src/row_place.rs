@@ -1,6 +1,7 @@
 //! From the place of refusal 5 or 6 to the sheet, the row and the column.
 
 use crate::layout::{row_at, Entry, Head, PLACES_OF_A_BLOCK, ROWS_OF_A_BLOCK};
+use crate::Cell;
 
 /// What the place of refusal 5 or 6 tells: a row, and which byte of it is wrong.
 ///
@@ -55,9 +56,12 @@ impl RowPlace {
         let used = row < entry.rows();
         let columns = if used { entry.columns() } else { &[] };
         let column = |byte: u8| columns.get(usize::from(byte)).copied();
-        // "k values, each below its column's V, then zeros": a zero is what is below 1.
-        let bound = |byte| column(byte).map_or(1, |column| head.count(column));
-        let byte = (0..4).find(|&byte| bytes[usize::from(byte)] >= bound(byte));
+        // "k values, each below its column's V, then zeros. Unused rows are zero."
+        let right = |byte, found| match column(byte) {
+            Some(column) => Cell::from(found).is_right(head.count(column)),
+            None => found == 0,
+        };
+        let byte = (0..4).find(|&byte| !right(byte, bytes[usize::from(byte)]));
         Some(Self {
             sheet,
             row,

@@ -26,7 +26,7 @@ fn values_that_are_too_large() {
     // The changed byte and what it becomes; then sheet, row, column, and V.
     for (at, value, [sheet, row, column, count]) in [
         (512, 3, [0, 0, 1, 3]),
-        (524, 255, [0, 3, 1, 3]),
+        (524, 254, [0, 3, 1, 3]),
         (1024, 2, [2, 0, 0, 2]),
         (1025, 3, [2, 0, 1, 3]),
         (1026, 4, [2, 0, 2, 4]),
@@ -93,6 +93,48 @@ fn the_first_fault_is_named() {
     let filler = "refusal 6: sheet 0, row 4, which is unused: a byte is not zero";
     let refusal = refusal(&[(528, 1), (1024, 7)]);
     assert_eq!(refusal.to_string(), filler);
+}
+
+/// "Refusal 5 lets 255 pass": it is no fault in the place of a value, and hides none after it.
+#[test]
+fn any_in_a_row() {
+    for at in [512, 524, 1024, 1025, 1026, 1024 + 4 * 126 + 2, 1536] {
+        let bytes = changed(&three_sheets(), &[(at, 255)]);
+        assert!(check(&bytes).is_ok(), "{at}");
+        let place = RowPlace::of(&bytes, (at / 4) as u16).expect("a row");
+        assert_eq!((place.byte, place.column), (None, None), "{at}");
+    }
+    let large = "refusal 5: sheet 2, row 0, column 2: value 4 is not below its V, 4";
+    let filler = "refusal 6: sheet 2, row 0: a byte after its values is not zero";
+    for before in [&[][..], &[1024], &[1025], &[1024, 1025]] {
+        for (at, value, sentence) in [(1026, 4, large), (1027, 1, filler), (1027, 255, filler)] {
+            let mut changes: Vec<_> = before.iter().map(|&at| (at, 255)).collect();
+            changes.push((at, value));
+            assert_eq!(refusal(&changes).to_string(), sentence);
+        }
+    }
+}
+
+/// In the bytes after the values and in unused rows 255 is no more than any other number.
+#[test]
+fn any_where_there_is_no_column() {
+    for (at, sentence) in [
+        (513, "sheet 0, row 0: a byte after its values is not zero"),
+        (527, "sheet 0, row 3: a byte after its values is not zero"),
+        (528, "sheet 0, row 4, which is unused: a byte is not zero"),
+        (
+            1019,
+            "sheet 0, row 126, which is unused: a byte is not zero",
+        ),
+        (
+            1536 + 4 * 3,
+            "sheet 2, row 130, which is unused: a byte is not zero",
+        ),
+    ] {
+        let named = [255, 254, 1].map(|value| refusal(&[(at, value)]));
+        assert_eq!(named, [named[0]; 3]);
+        assert_eq!(named[0].to_string(), format!("refusal 6: {sentence}"));
+    }
 }
 
 /// Every place that there is, in the book and after it: the rows come in turn, and the rest is none.

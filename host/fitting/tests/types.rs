@@ -18,6 +18,7 @@ fn every_type_goes_anywhere() {
     plain::<ValueIter>();
     small::<Book>();
     small::<Sheet>();
+    small::<Cell>();
     small::<Values>();
     small::<Order>();
     small::<Answers>();
@@ -41,6 +42,7 @@ fn sizes() {
     assert_eq!(size_of_val(&SPACE), 18_504);
     assert_eq!(size_of::<Book>(), size_of::<&[u8]>());
     assert_eq!(size_of::<Values>(), 4);
+    assert_eq!(size_of::<Cell>(), 2);
     assert!(size_of::<Refusal>() <= 16 && size_of::<Answers>() <= 32);
 }
 

@@ -2,7 +2,7 @@
 //! `conformance/tests/seeded.rs`, on seeded books.
 
 use conformance::{harbour, regular, write};
-use fitting::check;
+use fitting::{check, Cell, Values};
 use std::collections::HashSet;
 
 #[test]
@@ -32,6 +32,47 @@ fn sheets_and_rows_run_both_ways() {
     assert_eq!(last.rows().len(), 508);
     let backwards = last.rows().rev().map(Some);
     assert!(backwards.eq((0..508).rev().map(|number| last.row(number))));
+}
+
+/// A short row is shown as it stands in the bytes; its cells say which values it stands for.
+#[test]
+fn short_rows() {
+    let mut short = harbour();
+    short.sheets[1].rows = vec![vec![0, 255], vec![1, 1]];
+    let bytes = write(&short);
+    let book = check(&bytes).unwrap();
+    let sheet = book.sheet(1).unwrap();
+    assert_eq!(sheet.row(0), Some(&[0, 255][..]));
+    let cells = sheet.rows().flatten().map(|&byte| Cell::from(byte));
+    let [zero, one] = [0, 1].map(Cell::Value);
+    assert!(cells.eq([zero, Cell::Any, one, one]));
+    // Written out, they are the harbour book's; the sheets are not equal for that.
+    let written_out = sheet.rows().flat_map(|row| {
+        let values = |i: usize| Cell::from(row[i]).matched(book.values(sheet.columns()[i]));
+        let boards = values(1);
+        let motors = values(0).into_iter();
+        motors.flat_map(move |motor| boards.iter().map(move |board| [motor, board]))
+    });
+    let whole = write(&harbour());
+    let plain = check(&whole).unwrap().sheet(1).unwrap();
+    assert!(written_out.eq(plain.rows().map(|row| [row[0], row[1]])));
+    assert_ne!(sheet, plain);
+}
+
+#[test]
+fn what_a_cell_matches() {
+    let some = Values::of([0, 31]).unwrap();
+    for byte in 0..=255 {
+        let cell = Cell::from(byte);
+        assert_eq!(cell == Cell::Any, byte == 255);
+        assert_eq!(cell.matched(Values::NONE), Values::NONE);
+        let matched = match byte {
+            0 | 31 => Values::of([byte]).unwrap(),
+            255 => some,
+            _ => Values::NONE,
+        };
+        assert_eq!(cell.matched(some), matched, "{byte}");
+    }
 }
 
 #[test]

@@ -1,7 +1,9 @@
 //! One input given to the library and to the independent version.
 
 use crate::Input;
-use conformance::{compare_run, count_steps, space_for, Calls, Seen, Tally, FENCE, LIBRARY};
+use conformance::{
+    compare_run, count_short, count_steps, space_for, Calls, Seen, Tally, FENCE, LIBRARY,
+};
 
 /// Compares both versions on the input that these bytes stand for, and counts it. A difference
 /// panics.
@@ -16,9 +18,10 @@ pub fn try_bytes(bytes: &[u8], tally: &mut Tally) {
     tally.add(&format!("books, refusal {}", checked / 65_536), 1);
     tally.add(&format!("runs, refusal {}", ran / 65_536), 1);
     if ran < 65_536 {
-        let counts = &input.book[8..8 + usize::from(input.book[4])];
-        let orders = input.orders.as_chunks().0;
-        count_steps(tally, counts, orders, &Seen::read_all(&answers));
+        let book = reference::decode(&input.book).expect("an accepted book");
+        let (orders, answers) = (input.orders.as_chunks().0, Seen::read_all(&answers));
+        count_steps(tally, &book.counts, orders, &answers);
+        count_short(tally, &book, &answers);
     }
 }
 

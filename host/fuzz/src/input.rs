@@ -21,10 +21,11 @@
 //!  +---+---+--------+  | width | columns, a | rows | seed | rows, k bytes each,  |
 //!   each brought into  |       | 16-bit set | n    |      | if the seed is 0     |
 //!   its range by mod   +-------+------------+------+------+----------------------+
+//!   a byte of a row that is 255 is any, and stays so
 //! ```
 
 use crate::put_aside_long_finishes;
-use conformance::{mend, space_for, write, Book, Random, Sheet, BLOCK};
+use conformance::{mend, space_for, write, Book, Random, Sheet, ANY, BLOCK};
 use reference::Kind;
 
 /// The longest input that a fuzz run makes.
@@ -145,16 +146,19 @@ impl<'a> Rest<'a> {
         let rows = self.number() % 509;
         let seed = self.byte();
         let random = &mut Random::new(seed.into());
-        let mut value = |column: &u8| {
+        let mut cell = |column: &u8| {
             let byte = if seed == 0 {
                 self.byte()
             } else {
                 random.byte()
             };
-            byte % counts[usize::from(*column)]
+            match byte {
+                ANY => ANY,
+                _ => byte % counts[usize::from(*column)],
+            }
         };
         let rows = (0..rows)
-            .map(|_| columns.iter().map(&mut value).collect())
+            .map(|_| columns.iter().map(&mut cell).collect())
             .collect();
         Sheet { columns, rows }
     }

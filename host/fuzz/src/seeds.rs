@@ -2,7 +2,7 @@
 
 use crate::{described, described_by_seed, raw, LONGEST_INPUT, MENDED};
 use conformance::{changed, harbour, kit, narrow, regular, tiny, write};
-use conformance::{Book, Case, Run, Sheet, FINISH};
+use conformance::{Book, Case, Run, Sheet, ANY, FINISH};
 use std::ops::Range;
 
 /// The first inputs, always the same: the vectors of the conformance kit, sweeps over single bytes, over pairs
@@ -15,10 +15,22 @@ pub fn seeds(count: u64) -> Vec<Vec<u8>> {
     }
     seeds.extend(wrong_bytes(&tiny(), 4..96, 255));
     seeds.extend(wrong_bytes(&harbour(), 4..96, 255));
-    seeds.extend(wrong_bytes(&regular(4, 5, 1, 3, 4), 512..528, 5));
-    seeds.extend(wrong_pairs(&regular(4, 5, 1, 3, 2), 512..528, 5));
+    for value in [5, 254, ANY] {
+        seeds.extend(wrong_bytes(&regular(4, 5, 1, 3, 4), 512..528, value));
+    }
+    for value in [5, ANY] {
+        seeds.extend(wrong_pairs(&regular(4, 5, 1, 3, 2), 512..528, value));
+    }
+    for rows in 1..127 {
+        // The last byte of the last unused row, however many there are.
+        seeds.extend(wrong_bytes(&regular(4, 5, 1, rows, 4), 1019..1020, 1));
+    }
     seeds.extend((0..=508).filter(|rows| rows % 64 < 2).map(row_count));
     seeds.extend((1..=508).filter(|rows| rows % 64 < 2).map(last_row));
+    seeds.push(rows_past_a_gap());
+    for rows in (1..=508).filter(|rows| rows % 64 < 2) {
+        seeds.extend([0, 1].map(|value| last_short_row(rows, value)));
+    }
     for seed in 0..count {
         let run = Run::new(seed);
         seeds.extend(both(&run.book, &run.orders));
@@ -34,7 +46,8 @@ fn both(book: &[u8], orders: &[u8]) -> impl Iterator<Item = Vec<u8>> {
     [raw(MENDED, book, orders)].into_iter().chain(described)
 }
 
-/// A book with each of these bytes made this value, one at a time, and the checks mended.
+/// A book with each of these bytes made this value, one at a time, and the checks mended. Any is right in
+/// some places.
 fn wrong_bytes(book: &Book, places: Range<usize>, value: u8) -> impl Iterator<Item = Vec<u8>> {
     let bytes = write(book);
     places.map(move |at| {
@@ -70,15 +83,41 @@ fn row_count(rows: usize) -> Vec<u8> {
 /// A sheet of so many rows that are all different, narrowed to its last: nothing else shows that it is there.
 fn last_row(rows: usize) -> Vec<u8> {
     let row = |r: usize| vec![(r % 32) as u8, (r / 32) as u8];
+    let last = row(rows - 1);
+    let orders = [narrow(0, 1 << last[0]), narrow(1, 1 << last[1]), FINISH].concat();
+    two_columns((0..rows).map(row).collect(), &orders)
+}
+
+/// A sheet of so many rows 0 0, the last of them 1 and any, narrowed to it; and to the first of each 64, which
+/// has this value and 4, if the value is 1.
+fn last_short_row(rows: usize, value: u8) -> Vec<u8> {
+    let row = |r: usize| match r % 64 {
+        _ if r + 1 == rows => vec![1, ANY],
+        0 => vec![value, 4],
+        _ => vec![0, 0],
+    };
+    let orders = [narrow(1, 0xF0), FINISH, narrow(0, 2), FINISH].concat();
+    two_columns((0..rows).map(row).collect(), &orders)
+}
+
+/// Thirty rows, one that a narrow cuts away, and behind it rows that each have a value of their own.
+fn rows_past_a_gap() -> Vec<u8> {
+    let row = |r: u8| match r {
+        30 => vec![1, 0],
+        _ => vec![0, r.saturating_sub(30)],
+    };
+    two_columns((0..50).map(row).collect(), &[narrow(0, 1), FINISH].concat())
+}
+
+/// A book of two columns of 32 values and a sheet of these rows, with these orders.
+fn two_columns(rows: Vec<Vec<u8>>, orders: &[u8]) -> Vec<u8> {
     let sheet = Sheet {
         columns: vec![0, 1],
-        rows: (0..rows).map(row).collect(),
+        rows,
     };
     let book = Book {
         counts: vec![32; 2],
         sheets: vec![sheet],
     };
-    let last = row(rows - 1);
-    let orders = [narrow(0, 1 << last[0]), narrow(1, 1 << last[1]), FINISH].concat();
-    raw(MENDED, &write(&book), &orders)
+    raw(MENDED, &write(&book), orders)
 }

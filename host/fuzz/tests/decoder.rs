@@ -1,7 +1,7 @@
 //! Any bytes are an input, and the inputs that come of them are of every kind.
 
 use conformance::{example_orders, harbour, look_for_steps, regular, space_for, write};
-use conformance::{Random, Tally, FINISH, NO_KIND};
+use conformance::{Random, Tally, ANY, FINISH, NO_KIND};
 use fuzz::{described, put_aside_long_finishes, raw, seeds, try_bytes};
 use fuzz::{Input, DESCRIBED, LONGEST_INPUT, MENDED};
 use reference::{book_refusals, run_refusals};
@@ -43,7 +43,14 @@ fn any_bytes_are_an_input() {
 #[test]
 fn books_and_orders_are_read_as_written() {
     let orders = example_orders().concat();
-    for book in [harbour(), regular(16, 32, 8, 9, 4), regular(1, 1, 0, 0, 1)] {
+    let mut short = harbour();
+    short.sheets[1].rows[0][1] = ANY;
+    for book in [
+        harbour(),
+        short,
+        regular(16, 32, 8, 9, 4),
+        regular(1, 1, 0, 0, 1),
+    ] {
         let bytes = write(&book);
         let mut spoilt = bytes.clone();
         spoilt[508] ^= 1;

@@ -16,7 +16,8 @@ pub struct Book {
 pub struct Sheet {
     /// "k column numbers below C, each above the one before"
     pub columns: Vec<u8>,
-    /// The n rows in the order of the book; each has k values, one for each column of the sheet.
+    /// The n rows in the order of the book; each has k cells, one for each column of the sheet: a value,
+    /// or any.
     pub rows: Vec<Vec<u8>>,
 }
 

@@ -1,7 +1,7 @@
 //! The settled domains, by striking what no row supports until nothing changes.
 
-use crate::orders::value_bit;
-use crate::{Book, Sheet};
+use crate::cells::{lies_in, matched};
+use crate::Book;
 
 /// "Given allowed values for every column, the settled domains are the union, column by column, of
 /// all sound boxes within them. If there is none, every domain is empty and the session is dead."
@@ -31,8 +31,8 @@ fn supported(book: &Book, domains: &[u32]) -> Vec<u32> {
         let mut carried = vec![0; sheet.columns.len()];
         for row in &sheet.rows {
             if lies_in(sheet, row, domains) {
-                for (i, &value) in row.iter().enumerate() {
-                    carried[i] |= value_bit(value);
+                for (i, &cell) in row.iter().enumerate() {
+                    carried[i] |= matched(cell, domains[usize::from(sheet.columns[i])]);
                 }
             }
         }
@@ -41,10 +41,4 @@ fn supported(book: &Book, domains: &[u32]) -> Vec<u32> {
         }
     }
     kept
-}
-
-/// "A row lies in a box when each of its values is in its column's domain."
-pub(crate) fn lies_in(sheet: &Sheet, row: &[u8], domains: &[u32]) -> bool {
-    let mut cells = sheet.columns.iter().zip(row);
-    cells.all(|(&column, &value)| domains[usize::from(column)] & value_bit(value) != 0)
 }

@@ -1,5 +1,6 @@
 //! The first full set within the current domains.
 
+use crate::cells::lies_in;
 use crate::closure::closure;
 use crate::orders::value_bit;
 use crate::{Book, Outcome};
@@ -46,13 +47,12 @@ pub(crate) fn one_of_each<T: Copy>(lists: &[Vec<T>]) -> Vec<Vec<T>> {
     all
 }
 
-/// "its values in each sheet's columns form a row"
+/// "its values in each sheet's columns form a row"; short rows too, since "Full sets match in the same
+/// way": the row lies in the box of these values alone.
 pub(crate) fn is_full(book: &Book, set: &[u8]) -> bool {
-    book.sheets.iter().all(|sheet| {
-        let columns = sheet.columns.iter();
-        let values: Vec<u8> = columns.map(|&column| set[usize::from(column)]).collect();
-        sheet.rows.contains(&values)
-    })
+    let alone: Vec<u32> = set.iter().map(|&value| value_bit(value)).collect();
+    let mut sheets = book.sheets.iter();
+    sheets.all(|sheet| sheet.rows.iter().any(|row| lies_in(sheet, row, &alone)))
 }
 
 /// "The search sets the lowest column that isn't single to each of its values in rising order and

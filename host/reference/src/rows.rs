@@ -1,6 +1,6 @@
 //! The blocks of the sheets: where a row stands, and the faults of the bytes there.
 
-use crate::{blocks_of, head, BLOCK, ROWS_OF_A_BLOCK};
+use crate::{blocks_of, cells, head, BLOCK, ROWS_OF_A_BLOCK};
 
 /// A refusal, and the offset of its byte in the whole file.
 pub type RowFault = (u64, usize);
@@ -49,7 +49,7 @@ pub fn row_faults(book: &[u8]) -> Vec<RowFault> {
 fn fault(head: &[u8], entry: &head::Entry, used: bool, i: usize, byte: u8) -> Option<u64> {
     if used && i < entry.width {
         // "Refusal 5 is now only for a value that is too large."
-        let right = usize::from(byte) < head::values(head, entry.columns[i]);
+        let right = cells::is_right(byte, head::values(head, entry.columns[i]));
         (!right).then_some(5)
     } else {
         // "A filler byte that isn't zero gets its own number." "6 for filler"

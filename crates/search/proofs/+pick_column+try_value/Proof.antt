@@ -23,26 +23,26 @@ use Rattle.cells.proofs.bits.others.Reads as others-reads
 use Rattle.search.proofs.+pick_column+try_value.{statement}
 use Rattle.search.proofs.+pick_column+try_value.Tie.{close}
 
-abbrev μ-pick-column : Measures 7 pick-column-kinds.ps ℕ
-μ-pick-column κs a = 2 * valuesLeft (a .0 .now) (a .1 .1 .1 .0 .now) + 1
+abbrev μ-pick-column : Measures 8 pick-column-kinds.ps ℕ
+μ-pick-column κs a = 2 * valuesLeft (a .0 .now) (a .1 .1 .1 .1 .0 .now) + 1
 
-abbrev μ-try-value : Measures 7 try-value-kinds.ps ℕ
-μ-try-value κs a = 2 * valuesLeft (a .0 .now) (a .1 .1 .1 .0 .now)
+abbrev μ-try-value : Measures 8 try-value-kinds.ps ℕ
+μ-try-value κs a = 2 * valuesLeft (a .0 .now) (a .1 .1 .1 .1 .0 .now)
 
-abbrev pick-column-at : ℕ → In 7 pick-column-kinds.ps
+abbrev pick-column-at : ℕ → In 8 pick-column-kinds.ps
 pick-column-at t =
-    and 7 pick-column-kinds.ps (is 7 pick-column-kinds.ps μ-pick-column t) pick-column.Pre
+    and 8 pick-column-kinds.ps (is 8 pick-column-kinds.ps μ-pick-column t) pick-column.Pre
 
-abbrev pick-column-below : ℕ → In 7 pick-column-kinds.ps
+abbrev pick-column-below : ℕ → In 8 pick-column-kinds.ps
 pick-column-below t =
-    and 7 pick-column-kinds.ps (falls 7 pick-column-kinds.ps _<_ μ-pick-column t) pick-column.Pre
+    and 8 pick-column-kinds.ps (falls 8 pick-column-kinds.ps _<_ μ-pick-column t) pick-column.Pre
 
-abbrev try-value-at : ℕ → In 7 try-value-kinds.ps
-try-value-at t = and 7 try-value-kinds.ps (is 7 try-value-kinds.ps μ-try-value t) try-value.Pre
+abbrev try-value-at : ℕ → In 8 try-value-kinds.ps
+try-value-at t = and 8 try-value-kinds.ps (is 8 try-value-kinds.ps μ-try-value t) try-value.Pre
 
-abbrev try-value-below : ℕ → In 7 try-value-kinds.ps
+abbrev try-value-below : ℕ → In 8 try-value-kinds.ps
 try-value-below t =
-    and 7 try-value-kinds.ps (falls 7 try-value-kinds.ps _<_ μ-try-value t) try-value.Pre
+    and 8 try-value-kinds.ps (falls 8 try-value-kinds.ps _<_ μ-try-value t) try-value.Pre
 
 -- what each of the two knows of the functions that it calls
 abbrev picks : ℕ → pick-column-lts.Claims
@@ -74,10 +74,10 @@ tries t = (
 )
 
 abbrev pick-column-Inv-loop : pick-column-lts.InvT-loop
-pick-column-Inv-loop book begins scopes dom valid index nonzero c rest₀ rest = Untried book dom c rest
+pick-column-Inv-loop book begins scopes shorts dom valid index nonzero c rest₀ rest = Untried book dom c rest
 
 abbrev pick-column-μ-loop : pick-column-lts.MeasureT-loop
-pick-column-μ-loop book begins scopes dom valid index nonzero c rest₀ rest = rest
+pick-column-μ-loop book begins scopes shorts dom valid index nonzero c rest₀ rest = rest
 
 pick-column-returns : (t : ℕ) → pick-column-lts.Need-returns (picks t) (pick-column-at t) pick-column.Post pick-column-Inv-loop pick-column-μ-loop
 pick-column-returns t c =

@@ -2,9 +2,10 @@
 //! is, and every set.
 
 use super::{described, described_harbour};
-use crate::closure::lies_in;
+use crate::cells::matched;
 use crate::finish::{by_trying_all, finish, is_full, one_of_each, sets_within};
-use crate::{all_values, closure, search, Book, Outcome, Sheet};
+use crate::{all_values, closure, is_short, lies_in, search, written_out};
+use crate::{Book, Outcome, Sheet, ANY};
 
 /// "A *sound box* has no empty column, and in it, for each sheet, every value of every column of
 /// that sheet is carried by a row of that sheet lying in the box."
@@ -12,9 +13,10 @@ fn is_sound(book: &Book, domains: &[u32]) -> bool {
     let no_empty_column = domains.iter().all(|&domain| domain != 0);
     let every_value_carried = book.sheets.iter().all(|sheet| {
         (0..sheet.columns.len()).all(|i| {
+            let domain = domains[usize::from(sheet.columns[i])];
             let lying = sheet.rows.iter().filter(|row| lies_in(sheet, row, domains));
-            let carried = lying.fold(0, |carried, row| carried | 1 << row[i]);
-            carried == domains[usize::from(sheet.columns[i])]
+            let carried = lying.fold(0, |carried, row| carried | matched(row[i], domain));
+            carried == domain
         })
     });
     no_empty_column && every_value_carried
@@ -66,7 +68,8 @@ impl Numbers {
         Book { counts, sheets }
     }
 
-    /// Up to twelve rows. In half of the sheets the first value and the last must differ, as in K7.
+    /// Up to twelve rows. In half of the sheets the first value and the last must differ, as in K7. In a
+    /// quarter of them every fourth cell is any.
     fn sheet(&mut self, counts: &[u8]) -> Sheet {
         let mut columns: Vec<u8> = (0..2 + self.below(2))
             .map(|_| self.below(counts.len() as u64))
@@ -81,15 +84,32 @@ impl Numbers {
         } else {
             rows.truncate(self.below(13).into());
         }
+        if self.below(4) == 0 {
+            let cells = rows.iter_mut().flatten();
+            let some = cells.filter(|_| self.below(4) == 0);
+            some.for_each(|cell| *cell = ANY);
+        }
         Sheet { columns, rows }
     }
 }
 
+/// A book without its short rows.
+pub(super) fn without_short_rows(book: &Book) -> Book {
+    let mut plain = book.clone();
+    for sheet in &mut plain.sheets {
+        sheet.rows.retain(|row| !is_short(row));
+    }
+    plain
+}
+
+/// "What a buyer sees of an accepted book must equal a book with such rows written out": of that one too, what
+/// document 01 says of plain rows.
 #[test]
 fn closure_and_search_give_what_the_definitions_say() {
     let numbers = &mut Numbers(1);
     let [mut dead, mut struck, mut kept] = [0; 3];
     let [mut none, mut lowest, mut higher] = [0; 3];
+    let [mut short, mut kept_by_short, mut found_by_short] = [0; 3];
     for case in 0..30_000 {
         let book = numbers.book();
         let mut allowed = Vec::new();
@@ -105,6 +125,17 @@ fn closure_and_search_give_what_the_definitions_say() {
         assert_eq!(finish(&book, &domains), first, "case {case}");
         // Settling loses no full set, so the same one is first among all values.
         assert_eq!(by_trying_all(&book, &allowed), first, "case {case}");
+        let plain = without_short_rows(&book);
+        if plain != book {
+            let twin = written_out(&book);
+            assert_eq!(without_short_rows(&twin), twin, "case {case}: {book:?}");
+            let union = union_of_sound_boxes(&twin, &allowed);
+            assert_eq!(domains, union, "case {case}: {book:?}");
+            assert_eq!(by_trying_all(&twin, &allowed), first, "case {case}");
+            short += 1;
+            kept_by_short += usize::from(closure(&plain, &allowed) != domains);
+            found_by_short += usize::from(by_trying_all(&plain, &domains) != first);
+        }
         match domains {
             _ if domains[0] == 0 => dead += 1,
             _ if domains == allowed => kept += 1,
@@ -121,7 +152,12 @@ fn closure_and_search_give_what_the_definitions_say() {
     println!(
         "{none} alive without a full set, {lowest} with the lowest values, {higher} with others"
     );
+    println!(
+        "{short} with short rows, {kept_by_short} where they keep a value, {found_by_short} where \
+         without them another set is first, or none"
+    );
     assert!(dead > 5_000 && struck > 5_000 && kept > 5_000);
+    assert!(short > 5_000 && kept_by_short > 2_000 && found_by_short > 2_000);
     assert!(none > 100 && lowest > 2_000 && higher > 2_000);
 }
 

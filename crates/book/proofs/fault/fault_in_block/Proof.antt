@@ -23,9 +23,9 @@ returns c =
     let o : tie.After-shared-slice-known = search in
     let k = o .before in
     let m = at-bounds .bounds-of .result in
-    let there : BoundedSheet (k .args .book .now) (k .args .s) (k .args .start) (m .w) (m .x) (m .y) (m .z) = record { there = k .pre .0; starts = k .pre .3; bounds = at-bounds .bounds-of .ensures .0; small = at-bounds .bounds-of .ensures .1 } in
+    let there : BoundedSheet (k .args .book .now) (k .args .s) (k .args .start) (m .w) (m .x) (m .y) (m .z) (m .k) = record { there = k .pre .0; starts = k .pre .3; bounds = at-bounds .bounds-of .ensures .0; small = at-bounds .bounds-of .ensures .1 } in
     c .fault-number .ensures
-    ∙ rw (firstIn-lowest (block-first (k .args .book .now) _ (k .args .s) (k .args .q) (k .args .start) _ _ _ _ _ _ _ there (k .pre .4) (at-block .block .ensures .0) (at-rows .rows .ensures .0) (at-used .used-rows .ensures .0) (at-seek .seek-wrong .ensures)))
+    ∙ rw (firstIn-lowest (block-first (k .args .book .now) _ (k .args .s) (k .args .q) (k .args .start) _ _ _ _ _ _ _ _ there (k .pre .4) (at-block .block .ensures .0) (at-rows .rows .ensures .0) (at-used .used-rows .ensures .0) (at-seek .seek-wrong .ensures)))
 
 pub fault-in-block-spec : {M : Type 1} → statement M
 fault-in-block-spec =

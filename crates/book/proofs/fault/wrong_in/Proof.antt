@@ -6,10 +6,10 @@ use Rattle.book.proofs.fault.wrong_in.Tie as tie
 
 returns : tie.Need-returns
 returns c =
-    rw (c .bound .ensures) (sym (in-used _ _ _ _ _ _ _ _ (c .before .before .if1 .taken) refl))
+    c .over-bound .ensures ∙ sym (in-used _ _ _ _ _ _ _ _ _ (c .before .before .if1 .taken) refl)
 
 returns-2 : tie.Need-returns-2
-returns-2 c = c .set-at .ensures ∙ sym (past-used _ _ _ _ _ _ _ (c .before .if1 .left))
+returns-2 c = c .set-at .ensures ∙ sym (past-used _ _ _ _ _ _ _ _ (c .before .if1 .left))
 
 pub wrong-in-spec : {M : Type 1} → statement M
 wrong-in-spec =

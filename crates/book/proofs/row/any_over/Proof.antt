@@ -1,47 +1,30 @@
-use mathlib.Core.Path.{sym, _∙_}
-use mathlib.Core.Bool.{false≢true}
 use Prim.Native.Nat.{ℕ, _<_}
 use native.Mathlib.Omega.{arith}
 use borrow.Author.Needs.{needs}
-use Rattle.model.proofs.Tests.{below}
 use Rattle.fields.specs.Bytes.{byteAt}
-use Rattle.book.proofs.Bounds.{high-found, joined-below, raised-found}
+use Rattle.book.proofs.Bounds.{turned-found}
+use Rattle.book.proofs.Words.{turn-small}
 use Rattle.book.proofs.row.any_over.Statement.{statement}
 use Rattle.book.proofs.row.any_over.Tie as tie
 
+any-turned-requires : tie.Need-any-turned-requires
+any-turned-requires c κs =
+    let o : tie.After-shared-slice-known = search in
+    let t : tie.After-turn-of = search in
+    (o .before .pre .0, rw (t .turn-of .ensures) (turn-small (o .before .args .m .k)))
+
 returns : tie.Need-returns
 returns c =
-    let j = c .before .before in
-    let k = j .before .before in
+    let o : tie.After-shared-slice-known = search in
+    let k = o .before in
     let b = k .args .b .now in
     let m = k .args .m in
-    let bytes : (i : ℕ) → byteAt b i < 256 = λ i. omega (arith, j .before .shared-slice-known .given i) in
-    let below = rw (j .joined-rows .ensures) at (sym (c .before .below-bounds .ensures) ∙ c .if1 .taken) in
-    record { none = λ p. joined-below b bytes (m .w) (m .x) (m .y) (m .z) 127 below; some = λ p. absurd (false≢true p) }
-
-returns-2 : tie.Need-returns-2
-returns-2 c =
-    let j = c .before .before .before .before in
-    let k = j .before .before in
-    let b = k .args .b .now in
-    let m = k .args .m in
-    let bytes : (i : ℕ) → byteAt b i < 256 = λ i. omega (arith, j .before .shared-slice-known .given i) in
-    let high = rw (j .joined-rows .ensures) at (sym (c .before .any-high .ensures) ∙ c .if2 .taken) in
-    high-found b bytes (m .w) (m .x) (m .y) (m .z) 127 (k .pre .1 .few) high
-
-returns-3 : tie.Need-returns-3
-returns-3 c =
-    let h = c .before .before .before .before .before .before .before in
-    let j = h .before .before .before in
-    let k = j .before .before in
-    let b = k .args .b .now in
-    let m = k .args .m in
-    let bytes : (i : ℕ) → byteAt b i < 256 = λ i. omega (arith, j .before .shared-slice-known .given i) in
-    let low = rw (j .joined-rows .ensures) at (sym (h .any-high .ensures) ∙ c .before .before .before .before .before .before .if2 .left) in
-    raised-found b bytes (m .w) (m .x) (m .y) (m .z) 127 (k .pre .1 .few) low (rw (c .before .word-of .ensures) at (c .any-raised .ensures))
+    let t : tie.After-turn-of = search in
+    let w : tie.After-turned-slack = search in
+    let bytes : (i : ℕ) → byteAt b i < 256 = λ i. omega (arith, o .shared-slice-known .given i) in
+    turned-found b bytes (m .w) (m .x) (m .y) (m .z) (m .k) 127 (k .pre .1 .few)
+    (rw (t .turn-of .ensures, w .turned-slack .ensures) at (c .any-turned .ensures))
 
 pub any-over-spec : {M : Type 1} → statement M
 any-over-spec =
-    tie.close
-    (tie.spec (λ c κs. search needs) (λ c κs. search needs) returns (λ c κs. search needs) returns-2 (λ c. search needs) (λ c. search needs) (λ c. search needs)
-    (λ c. search needs) (λ c κs. search needs) (λ c κs. search needs) returns-3)
+    tie.close (tie.spec (λ c κs. search needs) (λ c κs. search needs) any-turned-requires returns)

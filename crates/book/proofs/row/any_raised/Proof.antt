@@ -6,7 +6,8 @@ use borrow.Author.Needs.{needs}
 use Rattle.model.specs.Tests.{Finds}
 use Rattle.model.proofs.Firsts.{finds-empty, finds-more}
 use Rattle.book.specs.Bounds.{anyHigh, raisedRow}
-use Rattle.book.proofs.Bounds.{high-zero, raised-more}
+use Rattle.book.proofs.Bounds.{raised-more}
+use Rattle.book.proofs.Words.{high-zero}
 use Rattle.book.proofs.row.any_raised.Statement.{statement}
 use Rattle.book.proofs.row.any_raised.Tie as tie
 

@@ -14,7 +14,7 @@ returns c =
     let at = c .before .before .before .before .before in
     let k = at in
     let m = k .args .m in
-    block-seen (k .args .book .now) _ (k .args .s) (k .args .q) (k .args .start) (m .w) (m .x) (m .y) (m .z) _ _ _ (k .pre .0) (k .pre .1)
+    block-seen (k .args .book .now) _ (k .args .s) (k .args .q) (k .args .start) (m .w) (m .x) (m .y) (m .z) (m .k) _ _ _ (k .pre .0) (k .pre .1)
     (c .before .before .before .block .ensures .0) (c .before .before .rows .ensures .0) (c .before .used-rows .ensures .0) (c .any-wrong .ensures)
 
 pub wrong-block-spec : {M : Type 1} → statement M

@@ -1,4 +1,4 @@
-use Prim.Native.Nat.{_+_}
+use Prim.Native.Nat.{_%_, _+_}
 use borrow.Author.Needs.{needs}
 use Rattle.model.proofs.Masks.{cleared-at}
 use Rattle.cells.specs.Cells.{GatheredOf, cellAt, fourOf}
@@ -8,7 +8,7 @@ use Rattle.cells.proofs.walk.gathered_far.Statement.{statement}
 use Rattle.cells.proofs.walk.gathered_far.Tie as tie
 
 abbrev Inv-loop : tie.InvT-loop
-Inv-loop book begin from word left₀ g₀ left g = GatheredOf (λ k j. cellAt book begin (from + k) j) (passed word left) (fourOf 0 0 0 0) (fourOf (g .a) (g .b) (g .c) (g .d)) × Part left word
+Inv-loop book begin from word left₀ g₀ left g = GatheredOf (λ k j. cellAt book begin (from + k) j % 32) (passed word left) (fourOf 0 0 0 0) (fourOf (g .a) (g .b) (g .c) (g .d)) × Part left word
 
 abbrev μ-loop : tie.MeasureT-loop
 μ-loop book begin from word left₀ g₀ left g = left
@@ -24,7 +24,7 @@ with-row-requires c κs =
     let start = c .before .before .before .before in
     let p = start .pre in
     let e = c .before .before .loop .inv .1 .at _ (c .lowest .ensures .2) in
-    record { there = p .1 .there _ e; value = λ j l. p .1 .value _ j e l }
+    p .1 .there _ e
 
 loop-again : tie.Need-loop-again Inv-loop μ-loop
 loop-again c =

@@ -1,4 +1,4 @@
-use Prim.Native.Nat.{_*_, _+_}
+use Prim.Native.Nat.{_%_, _*_, _+_}
 use borrow.Author.Needs.{needs}
 use Rattle.model.proofs.Masks.{cleared-at}
 use Rattle.fields.specs.Bytes.{byteAt}
@@ -9,7 +9,7 @@ use Rattle.cells.proofs.walk.gathered_near_set.Statement.{statement}
 use Rattle.cells.proofs.walk.gathered_near_set.Tie as tie
 
 abbrev Inv-loop : tie.InvT-loop
-Inv-loop book base word left₀ g₀ left g = GatheredOf (λ k j. byteAt book (base + 4 * k + j)) (passed word left) (fourOf 0 0 0 0) (fourOf (g .a) (g .b) (g .c) (g .d)) × Part left word
+Inv-loop book base word left₀ g₀ left g = GatheredOf (λ k j. byteAt book (base + 4 * k + j) % 32) (passed word left) (fourOf 0 0 0 0) (fourOf (g .a) (g .b) (g .c) (g .d)) × Part left word
 
 abbrev μ-loop : tie.MeasureT-loop
 μ-loop book base word left₀ g₀ left g = left
@@ -18,7 +18,7 @@ loop-holds : tie.Need-loop-holds Inv-loop μ-loop
 loop-holds c = (of-none _ _ (passed-start _), whole _)
 
 add-with-row : tie.Need-add-with-row Inv-loop μ-loop
-add-with-row c = let e = c .before .before .loop .inv .1 .at _ (c .lowest .ensures .2) in let k = c .before .before .before .before .pre .at _ e .there in search (needs, k)
+add-with-row c = let e = c .before .before .loop .inv .1 .at _ (c .lowest .ensures .2) in let k = c .before .before .before .before .pre .at _ e in search (needs, k)
 
 with-row-requires : tie.Need-with-row-requires Inv-loop μ-loop
 with-row-requires c κs = let e = c .before .before .loop .inv .1 .at _ (c .lowest .ensures .2) in c .before .before .before .before .pre .at _ e

@@ -1,5 +1,5 @@
 use mathlib.Core.Path.{_≡_, ap}
-use Prim.Native.Nat.{_*_, _+_, _-_, _≤_, ℕ}
+use Prim.Native.Nat.{_%_, _*_, _+_, _-_, _≤_, ℕ}
 use native.Mathlib.Omega.{arith}
 use lib.Dec.{ltb}
 use borrow.Author.Needs.{needs}
@@ -10,7 +10,7 @@ use Rattle.cells.proofs.walk.gathered_run.Statement.{statement}
 use Rattle.cells.proofs.walk.gathered_run.Tie as tie
 
 abbrev Inv-loop : tie.InvT-loop
-Inv-loop book base n g₀ k₀ g k = GatheredOf (λ k j. byteAt book (base + 4 * k + j)) (λ i. ltb i k) (fourOf 0 0 0 0) (fourOf (g .a) (g .b) (g .c) (g .d)) × (k ≤ n)
+Inv-loop book base n g₀ k₀ g k = GatheredOf (λ k j. byteAt book (base + 4 * k + j) % 32) (λ i. ltb i k) (fourOf 0 0 0 0) (fourOf (g .a) (g .b) (g .c) (g .d)) × (k ≤ n)
 
 abbrev μ-loop : tie.MeasureT-loop
 μ-loop book base n g₀ k₀ g k = n - k
@@ -19,7 +19,7 @@ loop-holds : tie.Need-loop-holds Inv-loop μ-loop
 loop-holds c = (of-none _ _ run-none, omega arith)
 
 add-with-row : tie.Need-add-with-row Inv-loop μ-loop
-add-with-row c = let k = c .before .before .before .pre .1 .at _ (c .loop-test .taken) .there in search (needs, k)
+add-with-row c = let k = c .before .before .before .pre .1 .at _ (c .loop-test .taken) in search (needs, k)
 
 with-row-requires : tie.Need-with-row-requires Inv-loop μ-loop
 with-row-requires c κs = c .before .before .before .pre .1 .at _ (c .loop-test .taken)

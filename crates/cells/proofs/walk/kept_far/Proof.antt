@@ -6,10 +6,10 @@ use Rattle.cells.proofs.walk.kept_far.Statement.{statement}
 use Rattle.cells.proofs.walk.kept_far.Tie as tie
 
 abbrev Inv-loop : tie.InvT-loop
-Inv-loop book begin from j d word left₀ keep₀ left keep = Walked (farIn book begin from j d) word left keep × Part left word
+Inv-loop book begin from j m word left₀ keep₀ left keep = Walked (farIn book begin from j m) word left keep × Part left word
 
 abbrev μ-loop : tie.MeasureT-loop
-μ-loop book begin from j d word left₀ keep₀ left keep = left
+μ-loop book begin from j m word left₀ keep₀ left keep = left
 
 loop-holds : tie.Need-loop-holds Inv-loop μ-loop
 loop-holds c = (walked-start _ _, whole _)
@@ -27,13 +27,6 @@ shared-slice-read-wide32 c =
     let e = c .before .before .before .loop .inv .1 .at _ (c .before .lowest .ensures .2) in
     omega (arith, p .1, p .2 .there _ e)
 
-has-requires : tie.Need-has-requires Inv-loop μ-loop
-has-requires c κs =
-    let start = c .before .before .before .before .before .before in
-    let p = start .pre in
-    let e = c .before .before .before .before .loop .inv .1 .at _ (c .before .before .lowest .ensures .2) in
-    rw (c .wide32 .ensures) (p .2 .value _ _ e (p .1))
-
 loop-again : tie.Need-loop-again Inv-loop μ-loop
 loop-again c =
     let at-has = c .before in
@@ -49,4 +42,4 @@ pub kept-far-spec : {M : Type 1} → statement M
 kept-far-spec =
     tie.close
     (tie.spec Inv-loop μ-loop loop-holds (λ c κs. search needs) (λ c. search needs) (λ c. search needs) (λ c. search needs) (λ c. search needs) add-wide32-2 add-wide32-3 shared-slice-read-wide32
-    (λ c κs. search needs) has-requires (λ c. search needs) (λ c. search needs) (λ c κs. search needs) (λ c. search needs) loop-again returns)
+    (λ c κs. search needs) (λ c κs. search needs) (λ c. search needs) (λ c. search needs) (λ c κs. search needs) (λ c. search needs) loop-again returns)

@@ -26,7 +26,7 @@ add-keep-2 c =
     let z = lt-of-lt-of-le (all-fits (head .loop .inv)) (pow-mono (let q : 60 - head .loop .k ≤ 60 = omega arith in q)) in search (needs, z, c .has .ensures .1)
 
 loop-again : tie.Need-loop-again Inv-loop μ-loop
-loop-again c = all-turn _ _ _ _ _ _ _ (c .before .before .before .before .loop .inv) (c .before .before .before .loop-test .taken) (ap (λ (x : ℕ). x % 32) (c .before .wide32 .ensures)) (c .has .ensures .0)
+loop-again c = all-turn _ _ _ _ _ _ _ (c .before .before .before .before .loop .inv) (c .before .before .before .loop-test .taken) (ap (λ (x : ℕ). x % 64) (c .before .wide32 .ensures)) (c .has .ensures .0)
 
 returns : tie.Need-returns Inv-loop μ-loop
 returns c = all-end (omega (arith, c .loop-test .left)) (c .before .loop .inv)

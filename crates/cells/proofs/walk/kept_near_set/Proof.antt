@@ -5,10 +5,10 @@ use Rattle.cells.proofs.walk.kept_near_set.Statement.{statement}
 use Rattle.cells.proofs.walk.kept_near_set.Tie as tie
 
 abbrev Inv-loop : tie.InvT-loop
-Inv-loop book base d word left₀ keep₀ left keep = Walked (nearIn book base d) word left keep × Part left word
+Inv-loop book base m word left₀ keep₀ left keep = Walked (nearIn book base m) word left keep × Part left word
 
 abbrev μ-loop : tie.MeasureT-loop
-μ-loop book base d word left₀ keep₀ left keep = left
+μ-loop book base m word left₀ keep₀ left keep = left
 
 loop-holds : tie.Need-loop-holds Inv-loop μ-loop
 loop-holds c = (walked-start _ _, whole _)
@@ -18,9 +18,6 @@ add-wide32 c = let e = c .before .before .loop .inv .1 .at _ (c .lowest .ensures
 
 shared-slice-read-wide32 : tie.Need-shared-slice-read-wide32 Inv-loop μ-loop
 shared-slice-read-wide32 c = let e = c .before .before .before .loop .inv .1 .at _ (c .before .lowest .ensures .2) in c .before .before .before .before .before .pre .there _ e
-
-has-requires : tie.Need-has-requires Inv-loop μ-loop
-has-requires c κs = let e = c .before .before .before .before .loop .inv .1 .at _ (c .before .before .lowest .ensures .2) in rw (c .wide32 .ensures) (c .before .before .before .before .before .before .pre .value _ e)
 
 loop-again : tie.Need-loop-again Inv-loop μ-loop
 loop-again c =
@@ -36,5 +33,5 @@ returns c = near-end (rw (c .loop-test .left) at (c .before .loop .inv .0))
 pub kept-near-set-spec : {M : Type 1} → statement M
 kept-near-set-spec =
     tie.close
-    (tie.spec Inv-loop μ-loop loop-holds (λ c κs. search needs) (λ c. search needs) (λ c. search needs) add-wide32 shared-slice-read-wide32 (λ c κs. search needs) has-requires
+    (tie.spec Inv-loop μ-loop loop-holds (λ c κs. search needs) (λ c. search needs) (λ c. search needs) add-wide32 shared-slice-read-wide32 (λ c κs. search needs) (λ c κs. search needs)
     (λ c. search needs) (λ c. search needs) (λ c κs. search needs) (λ c. search needs) loop-again returns)

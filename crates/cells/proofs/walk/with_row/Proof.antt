@@ -1,12 +1,16 @@
 use mathlib.Core.Path.{_∙_, _≡_, ap}
-use Prim.Native.Nat.{_+_, _<_, _^_, ℕ}
+use mathlib.Core.List.{List}
+use Prim.Native.Nat.{_%_, _+_, _^_, ℕ}
 use native.Mathlib.Omega.{arith}
 use lib.Bits.{bitOr}
 use borrow.Author.Needs.{needs}
 use Rattle.fields.specs.Bytes.{byteAt}
-use Rattle.cells.proofs.Walks.{low-five}
 use Rattle.cells.proofs.walk.with_row.Statement.{statement}
 use Rattle.cells.proofs.walk.with_row.Tie as tie
+
+-- the set of a place with its value
+added : (book : List ℕ) (f at x o : ℕ) → o ≡ 2 ^ (x % 32) → x ≡ byteAt book at → bitOr f o ≡ bitOr f (2 ^ (byteAt book at % 32))
+added book f at x o e z = ap (bitOr f) (e ∙ ap (λ (y : ℕ). 2 ^ (y % 32)) z)
 
 returns : tie.Need-returns
 returns c =
@@ -17,10 +21,13 @@ returns c =
     let at-only-3 = at-wide-2 .before .before .before in
     let at-wide-3 = at-only-3 .before in
     let start = at-wide-3 .before .before .before in
-    let p = start .pre in
-    let z : start .args .at ≡ start .args .at + 0 = omega arith in
-    let b0 : byteAt (start .args .book .now) (start .args .at) < 32 = rw (← z) at (p .value 0 (omega arith)) in
-    (ap (bitOr (start .args .f .a)) (at-only-3 .only .ensures ∙ ap (λ (x : ℕ). 2 ^ x) (low-five (at-wide-3 .wide32 .ensures) b0 ∙ ap (byteAt (start .args .book .now)) z)), ap (bitOr (start .args .f .b)) (at-only-2 .only2 .ensures ∙ ap (λ (x : ℕ). 2 ^ x) (low-five (at-wide-2 .wide322 .ensures) (p .value 1 (omega arith)))), ap (bitOr (start .args .f .c)) (at-only .only3 .ensures ∙ ap (λ (x : ℕ). 2 ^ x) (low-five (at-wide .wide323 .ensures) (p .value 2 (omega arith)))), ap (bitOr (start .args .f .d)) (c .before .only4 .ensures ∙ ap (λ (x : ℕ). 2 ^ x) (low-five (c .before .before .wide324 .ensures) (p .value 3 (omega arith)))))
+    let b = start .args .book .now in
+    let z : start .args .at ≡ start .args .at + 0 = omega arith in (
+      added b (start .args .f .a) _ _ _ (at-only-3 .only .ensures) (at-wide-3 .wide32 .ensures ∙ ap (byteAt b) z),
+      added b (start .args .f .b) _ _ _ (at-only-2 .only2 .ensures) (at-wide-2 .wide322 .ensures),
+      added b (start .args .f .c) _ _ _ (at-only .only3 .ensures) (at-wide .wide323 .ensures),
+      added b (start .args .f .d) _ _ _ (c .before .only4 .ensures) (c .before .before .wide324 .ensures),
+    )
 
 pub with-row-spec : {M : Type 1} → statement M
 with-row-spec =

@@ -4,7 +4,7 @@ use borrow.Author.Needs.{needs}
 use Rattle.heads.specs.Heads.{widthOf}
 use Rattle.words.proofs.Places.{column-below, eight, head-there, width-most}
 use Rattle.engine.proofs.Propagation.{at-sheet}
-use Rattle.engine.proofs.Worklists.{ColumnsTo, columns-end, columns-more, columns-none}
+use Rattle.engine.proofs.Layouts.{ColumnsTo, columns-end, columns-more, columns-none}
 use Rattle.engine.proofs.layout.columns_of.Statement.{statement}
 use Rattle.engine.proofs.layout.columns_of.Tie as tie
 

@@ -15,11 +15,11 @@ use Rattle.engine.proofs.propagate.fixpoint.Statement.{statement}
 use Rattle.engine.proofs.propagate.fixpoint.Tie as tie
 
 abbrev Inv-loop : tie.InvT-loop
-Inv-loop book begins scopes waiting column opening dom₀ valid₀ index₀ nonzero₀ changed₀ left₀ dom valid index nonzero changed left =
+Inv-loop book begins scopes shorts waiting column opening dom₀ valid₀ index₀ nonzero₀ changed₀ left₀ dom valid index nonzero changed left =
     Going book opening dom₀ dom valid index nonzero changed left
 
 abbrev μ-loop : tie.MeasureT-loop
-μ-loop book begins scopes waiting column opening dom₀ valid₀ index₀ nonzero₀ changed₀ left₀ dom valid index nonzero changed left =
+μ-loop book begins scopes shorts waiting column opening dom₀ valid₀ index₀ nonzero₀ changed₀ left₀ dom valid index nonzero changed left =
     256 * values 16 dom + left
 
 loop-holds : tie.Need-loop-holds Inv-loop μ-loop
@@ -27,25 +27,25 @@ loop-holds c = going-start _ (c .before .pre .0 .accepted) (c .before .pre .1)
 
 revise-requires : tie.Need-revise-requires Inv-loop μ-loop
 revise-requires c κs =
-    let at-first-waiting = c .before .before .before .before .before in
-    let head = at-first-waiting .before .before in
-    let start = head .before .before in
+    let at-first-waiting : tie.After-first-waiting Inv-loop μ-loop = search in
+    let head : tie.At-loop Inv-loop μ-loop = search in
+    let start : tie.Start Inv-loop μ-loop = search in
     let p = start .pre in
     let l = head .loop .inv .used _ (at-first-waiting .first-waiting .ensures .2) in
-    (at-laid _ (p .0 .accepted) (p .0) _ l, known-as (λ e. rw e refl) (head .loop .inv .sheet _ l), head .loop .inv .sized, head .loop .inv .store)
+    (at-laid _ (p .0 .accepted) (p .0) _ l, known-as (λ e. rw e refl) (head .loop .inv .sheet _ l), head .loop .inv .sized, head .loop .inv .store, p .0 .any _ l)
 
 returns : tie.Need-returns Inv-loop μ-loop
 returns c =
-    let at-first-waiting = c .before .before .before .before .before .before .before .before in
-    let head = at-first-waiting .before .before in
-    let start = head .before .before in
+    let at-first-waiting : tie.After-first-waiting Inv-loop μ-loop = search in
+    let head : tie.At-loop Inv-loop μ-loop = search in
+    let start : tie.Start Inv-loop μ-loop = search in
     let p = start .pre in
     going-failed _ (p .0 .accepted) (p .0) (head .loop .inv) (at-first-waiting .first-waiting .ensures .2) (c .before .before .revise .ensures) (not-true _ (c .if1 .taken))
 
 wake-requires : tie.Need-wake-requires Inv-loop μ-loop
 wake-requires c κs =
-    let at-first-waiting = c .before .before .before .before .before .before .before .before .before .before in
-    let head = at-first-waiting .before .before in (
+    let at-first-waiting : tie.After-first-waiting Inv-loop μ-loop = search in
+    let head : tie.At-loop Inv-loop μ-loop = search in (
       omega (arith, c .others .ensures .1, head .loop .inv .small),
       at-first-waiting .first-waiting .ensures .1,
       length-set (head .loop .changed) (at-first-waiting .first-waiting .result) 0 ∙ head .loop .inv .size,
@@ -54,13 +54,13 @@ wake-requires c κs =
 
 -- ---- a turn is over: the function's start, the loop's head, the sheet that was looked at, and the look
 abbrev start : tie.After-wake Inv-loop μ-loop → tie.Start Inv-loop μ-loop
-start c = c .before .before .before .before .before .before .before .before .before .before .before .before .before .before .before
+start c = c .before .before .before .before .before .before .before .before .before .before .before .before .before .before .before .before
 
 abbrev head : tie.After-wake Inv-loop μ-loop → tie.At-loop Inv-loop μ-loop
-head c = c .before .before .before .before .before .before .before .before .before .before .before .before .before
+head c = c .before .before .before .before .before .before .before .before .before .before .before .before .before .before
 
 abbrev sheet : tie.After-wake Inv-loop μ-loop → tie.After-first-waiting Inv-loop μ-loop
-sheet c = c .before .before .before .before .before .before .before .before .before .before .before
+sheet c = c .before .before .before .before .before .before .before .before .before .before .before .before
 
 abbrev look : tie.After-wake Inv-loop μ-loop → tie.After-revise Inv-loop μ-loop
 look c = c .before .before .before .before .before
@@ -87,4 +87,4 @@ pub fixpoint-spec : {M : Type 1} → statement M
 fixpoint-spec =
     tie.close
     (tie.spec Inv-loop μ-loop loop-holds (λ c κs. search needs) (λ c. search needs) (λ c. search needs) (λ c. search needs) (λ c. search needs) (λ c. search needs)
-    (λ c. search needs) revise-requires returns (λ c κs. search needs) wake-requires loop-less loop-again returns-2)
+    (λ c. search needs) (λ c. search needs) (λ c. search needs) revise-requires returns (λ c κs. search needs) wake-requires loop-less loop-again returns-2)

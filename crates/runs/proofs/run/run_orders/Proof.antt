@@ -19,31 +19,45 @@ use Rattle.runs.proofs.run.run_orders.Statement.{statement}
 use Rattle.runs.proofs.run.run_orders.Tie as tie
 
 abbrev Inv-loop : tie.InvT-loop
-Inv-loop book orders answers₀ begins scopes s₀ accepted₀ i₀ answers s accepted i =
+Inv-loop book orders answers₀ begins scopes shorts s₀ accepted₀ i₀ answers s accepted i =
     RanTo book orders answers₀ i s accepted answers × (i ≤ length orders / 8) × (72 * (length orders / 8) + 72 ≤ length answers₀)
 
 abbrev μ-loop : tie.MeasureT-loop
-μ-loop book orders answers₀ begins scopes s₀ accepted₀ i₀ answers s accepted i = length orders / 8 - i
+μ-loop book orders answers₀ begins scopes shorts s₀ accepted₀ i₀ answers s accepted i = length orders / 8 - i
 
 opened-requires : tie.Need-opened-requires Inv-loop μ-loop
 opened-requires c κs =
-    let start = c .before .before .before .before .before .before .before .before .before in
-    let p = start .pre in
-    (c .before .before .before .lay-out .ensures, omega (arith, p .enough))
+    let start : tie.Start Inv-loop μ-loop = search in
+    let at-lay-out : tie.After-lay-out Inv-loop μ-loop = search in
+    (at-lay-out .lay-out .ensures, omega (arith, start .pre .enough))
 
 loop-holds : tie.Need-loop-holds Inv-loop μ-loop
 loop-holds c =
     let o = c .before .before .opened .ensures in
-    let start = c .before .before .before .before .before .before .before .before .before .before .before .before in
+    let start : tie.Start Inv-loop μ-loop = search in
     let p = start .pre .enough in
     (opened-ran _ _ _ (omega (arith, p)) (o .0) (o .1), omega arith, omega (arith, p, opened-long _ (start .args .orders .now) _ (omega (arith, p)) (o .0) (o .1)))
 
+-- the function's start, from the loop's head
+abbrev origin : tie.At-loop Inv-loop μ-loop → tie.Start Inv-loop μ-loop
+origin c = c .before .before .before .before .before .before .before .before .before .before .before .before .before .before .before
+
+-- ---- an order's bytes lie in the list
+mul-order : tie.Need-mul-order Inv-loop μ-loop
+mul-order c = let l = right-list _ (origin (c .before) .pre .list) in omega (arith, c .loop-test .taken)
+
+mul-order-2 : tie.Need-mul-order-2 Inv-loop μ-loop
+mul-order-2 c = let l = right-list _ (origin (c .before) .pre .list) in omega (arith, c .loop-test .taken)
+
+add-order : tie.Need-add-order Inv-loop μ-loop
+add-order c = let l = right-list _ (origin (c .before) .pre .list) in omega (arith, c .loop-test .taken)
+
 -- ---- an order's turn, once its refusal is known: the function's start, the layout, the loop's head, and the order's bytes
 abbrev start : tie.After-refusal Inv-loop μ-loop → tie.Start Inv-loop μ-loop
-start c = c .before .before .before .before .before .before .before .before .before .before .before .before .before .before .before .before
+start c = origin (c .before .before .before)
 
 abbrev laid : tie.After-refusal Inv-loop μ-loop → tie.After-lay-out Inv-loop μ-loop
-laid c = c .before .before .before .before .before .before .before .before .before .before
+laid c = c .before .before .before .before .before .before .before .before .before .before .before
 
 abbrev head : tie.After-refusal Inv-loop μ-loop → tie.At-loop Inv-loop μ-loop
 head c = c .before .before .before
@@ -83,8 +97,9 @@ shared-slice-read-wide c = search needs
 narrow-requires : tie.Need-narrow-requires Inv-loop μ-loop
 narrow-requires c κs =
     let t : tie.After-refusal Inv-loop μ-loop = search in
-    let inside = narrow-inside _ _ _ (t .refusal .ensures _ refl) (c .before .before .before .before .before .before .before .if1 .taken) (some t) (c .before .before .before .before .before .if2 .taken) in
-    (laid t .lay-out .ensures, rw (c .before .wide .ensures .0) inside, some t)
+    let w : tie.After-wide Inv-loop μ-loop = search in
+    let inside = narrow-inside _ _ _ (t .refusal .ensures _ refl) (w .before .before .before .before .if1 .taken) (some t) (w .before .before .if2 .taken) in
+    (laid t .lay-out .ensures, rw (w .wide .ensures .0) inside, some t)
 
 -- ---- a mark
 shared-slice-read-if3 : tie.Need-shared-slice-read-if3 Inv-loop μ-loop
@@ -117,8 +132,8 @@ stepped c =
     let t : tie.After-refusal Inv-loop μ-loop = search in
     let f = t .refusal .ensures (head t .loop .s) refl in
     ⊎-elim (λ w. (
-      rw (w .9) (step-narrow _ _ _ f (w .0 .taken) _ (w .2 .taken) (w .6 .ensures .0) (w .7 .ensures) (w .8 .ensures)),
-      w .10 ∙ counts-one _ (w .0 .taken),
+      rw (w .10) (step-narrow _ _ _ f (w .0 .taken) _ (w .2 .taken) (w .4 .ensures .0) (w .5 .ensures) (w .9 .ensures)),
+      w .11 ∙ counts-one _ (w .0 .taken),
     ))
     (⊎-elim (λ w. (rw (w .6) (step-mark _ _ _ f (w .0 .taken) _ (w .4 .taken) (w .5 .ensures)), w .7 ∙ counts-one _ (w .0 .taken)))
     (⊎-elim (λ w. (
@@ -167,7 +182,7 @@ same-length c =
 returns : tie.Need-returns Inv-loop μ-loop
 returns c =
     let l = c .before .loop in
-    let start = c .before .before .before .before .before .before .before .before .before .before .before .before .before .before in
+    let start = origin (c .before) in
     let o = c .before .before .before .before .opened .ensures in
     let e : l .i ≡ length (start .args .orders .now) / 8 = omega (arith, c .loop-test .left, l .inv .1) in
     ran-from _ _ _ (omega (arith, start .pre .enough)) (o .0) (o .1) (rw e at (l .inv .0))
@@ -175,7 +190,7 @@ returns c =
 pub run-orders-spec : {M : Type 1} → statement M
 run-orders-spec =
     tie.close
-    (tie.spec Inv-loop μ-loop (λ c κs. search needs) opened-requires loop-holds (λ c. search needs) (λ c. search needs) (λ c. search needs) (λ c. search needs) (λ c. search needs) (λ c. search needs)
+    (tie.spec Inv-loop μ-loop (λ c κs. search needs) opened-requires loop-holds mul-order mul-order-2 add-order (λ c. search needs) (λ c. search needs) (λ c. search needs)
     (λ c κs. search needs) add-i add-accepted (λ c. search needs) shared-slice-read-wide (λ c κs. search needs) (λ c κs. search needs) narrow-requires
     shared-slice-read-if3 mark-requires shared-slice-read-if4 shared-slice-read-wide-2 wide-requires-2 back-requires show-order-requires
     (λ c. search needs) loop-again same-length returns)

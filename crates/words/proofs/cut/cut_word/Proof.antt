@@ -3,7 +3,7 @@ use mathlib.Core.Bool.{false≢true}
 use Prim.Native.Nat.{_<_}
 use native.Mathlib.Omega.{arith}
 use borrow.Author.Needs.{needs}
-use Rattle.words.proofs.Cuts.{word-less, word-readable, word-there, word-uncut, word-zero}
+use Rattle.words.proofs.Cuts.{word-at, word-less, word-uncut, word-zero}
 use Rattle.words.proofs.Places.{eight}
 use Rattle.words.proofs.cut.cut_word.Statement.{statement}
 use Rattle.words.proofs.cut.cut_word.Tie as tie
@@ -25,14 +25,10 @@ element-copy-out-word c = let q = eight (c .before .before .before .pre .0) in o
 
 kept-requires : tie.Need-kept-requires
 kept-requires c κs =
-    let at-word-number = c .before in
-    let start = at-word-number .before .before .before in
-    let l : start .args .p < 8 = omega (arith, start .pre .2 .indexed .few, start .pre .3) in (
-      at-word-number .word-number .ensures .1,
-      start .pre .1,
-      word-readable (start .pre .0) _ (start .pre .2 .inside) _ (at-word-number .word-number .ensures .1) (start .pre .2 .sized .bits _),
-      word-there (start .pre .0) _ (start .pre .2 .inside) _ (at-word-number .word-number .ensures .1) (start .pre .2 .sized .bits _) (rw (at-word-number .word-number .ensures .0) (start .pre .2 .indexed .limit _ l .0 (start .pre .3))),
-    )
+    let p = c .before .before .before .before .pre in
+    let w = c .before .word-number .ensures in
+    let r = word-at (p .0) (p .2) (p .3) (w .0) (w .1) in
+    (w .1, p .1, r .0, r .1)
 
 returns : tie.Need-returns
 returns c =

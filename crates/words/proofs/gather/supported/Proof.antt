@@ -1,90 +1,24 @@
-use mathlib.Core.Path.{refl}
-use Prim.Native.Nat.{_-_, _<_, _≤_}
-use native.Mathlib.Omega.{arith}
 use borrow.Author.Needs.{needs}
-use Rattle.cells.specs.Cells.{SmallSets}
-use Rattle.words.proofs.Cuts.{word-readable, word-there}
-use Rattle.words.proofs.Gathers.{Supporting, no-sets, supporting-all, supporting-covered, supporting-more, supporting-start}
-use Rattle.words.proofs.Places.{eight}
+use Rattle.words.proofs.Gathers.{supported-plain}
 use Rattle.words.proofs.gather.supported.Statement.{statement}
 use Rattle.words.proofs.gather.supported.Tie as tie
 
-abbrev Inv-loop : tie.InvT-loop
-Inv-loop book begin s x seen₀ valid index nonzero n p₀ seen p = Supporting book s p valid index seen × SmallSets seen × (p ≤ n)
+returns : tie.Need-returns
+returns c = c .before .gather .ensures .covers (c .if1 .taken)
 
-abbrev μ-loop : tie.MeasureT-loop
-μ-loop book begin s x seen₀ valid index nonzero n p₀ seen p = n - p
-
-nonzero-words-requires : tie.Need-nonzero-words-requires Inv-loop μ-loop
-nonzero-words-requires c κs = eight (c .before .pre .0)
-
-loop-holds : tie.Need-loop-holds Inv-loop μ-loop
-loop-holds c = (supporting-start _ _ _ _ (c .before .before .pre .2), rw (c .before .before .pre .2) no-sets, omega arith)
-
-word-number-requires : tie.Need-word-number-requires Inv-loop μ-loop
-word-number-requires c κs =
-    let start = c .before .before .before .before in
-    let l : c .before .loop .p < 8 = omega (arith, start .pre .1 .indexed .few, c .before .before .nonzero-words .ensures .0, c .loop-test .taken) in
-    (eight (start .pre .0), l, start .pre .1 .indexed .each _ l)
-
-mul-gathered : tie.Need-mul-gathered Inv-loop μ-loop
-mul-gathered c = let q = eight (c .before .before .before .before .before .pre .0) in search (needs, q)
-
-add-gathered : tie.Need-add-gathered Inv-loop μ-loop
-add-gathered c = let q = eight (c .before .before .before .before .before .pre .0) in search (needs, q)
-
-mul-gathered-2 : tie.Need-mul-gathered-2 Inv-loop μ-loop
-mul-gathered-2 c = let q = eight (c .before .before .before .before .before .pre .0) in search (needs, q)
-
-element-copy-out-gathered : tie.Need-element-copy-out-gathered Inv-loop μ-loop
-element-copy-out-gathered c = let q = eight (c .before .before .before .before .before .pre .0) in omega (arith, c .word-number .ensures .1)
-
-gathered-requires : tie.Need-gathered-requires Inv-loop μ-loop
-gathered-requires c κs =
-    let at-word-number = c .before .before in
-    let turn = at-word-number .before in
-    let head = turn .before in
-    let at-nonzero-words = head .before in
-    let start = at-nonzero-words .before .before in
-    let l : head .loop .p < 8 = omega (arith, start .pre .1 .indexed .few, at-nonzero-words .nonzero-words .ensures .0, turn .loop-test .taken) in (
-      at-word-number .word-number .ensures .1,
-      word-readable (start .pre .0) _ (start .pre .1 .inside) _ (at-word-number .word-number .ensures .1) (start .pre .1 .sized .bits _),
-      word-there (start .pre .0) _ (start .pre .1 .inside) _ (at-word-number .word-number .ensures .1) (start .pre .1 .sized .bits _) (rw (at-word-number .word-number .ensures .0) (start .pre .1 .indexed .limit _ l .0 (omega (arith, at-nonzero-words .nonzero-words .ensures .0, turn .loop-test .taken)))),
-      head .loop .inv .1,
-    )
-
-returns : tie.Need-returns Inv-loop μ-loop
-returns c =
-    let at-word-number = c .before .before .before .before .before .before in
-    let turn = at-word-number .before in
-    let head = turn .before in
-    let at-nonzero-words = head .before in
-    let start = at-nonzero-words .before .before in
-    let p = start .pre in
-    supporting-covered (p .0) (p .1 .indexed) (p .1 .sized) (supporting-more (p .0) (p .1 .indexed) (p .1 .sized) (omega (arith, at-nonzero-words .nonzero-words .ensures .0, turn .loop-test .taken)) (at-word-number .word-number .ensures .0) refl (head .loop .inv .0) (c .before .before .before .gathered .ensures .0)) (c .before .covered .ensures (c .if1 .taken))
-
-loop-again : tie.Need-loop-again Inv-loop μ-loop
-loop-again c =
-    let at-gathered = c .before .before .before in
-    let at-word-number = at-gathered .before .before .before in
-    let turn = at-word-number .before in
-    let head = turn .before in
-    let at-nonzero-words = head .before in
-    let start = at-nonzero-words .before .before in
-    let p = start .pre in (
-      supporting-more (p .0) (p .1 .indexed) (p .1 .sized) (omega (arith, at-nonzero-words .nonzero-words .ensures .0, turn .loop-test .taken)) (at-word-number .word-number .ensures .0) refl (head .loop .inv .0) (at-gathered .gathered .ensures .0),
-      at-gathered .gathered .ensures .1,
-      omega (arith, turn .loop-test .taken),
-    )
-
-returns-2 : tie.Need-returns-2 Inv-loop μ-loop
+returns-2 : tie.Need-returns-2
 returns-2 c =
-    let start = c .before .before .before .before in
+    let start : tie.Start = search in
+    let at-gather : tie.After-gather = search in
     let p = start .pre in
-    supporting-all (p .0) (p .1 .indexed) (p .1 .sized) (omega (arith, c .before .before .nonzero-words .ensures .0, c .loop-test .left)) (c .before .loop .inv .0)
+    supported-plain (p .0) (p .1) (c .if2 .taken) (p .2) (at-gather .gather .ensures .plain (c .before .if1 .left))
+
+widen-places-requires : tie.Need-widen-places-requires
+widen-places-requires c κs =
+    let start : tie.Start = search in
+    let at-gather : tie.After-gather = search in
+    let p = start .pre in
+    (p .0, p .1, p .2, p .4, at-gather .gather .ensures .plain (c .before .before .if1 .left))
 
 pub supported-spec : {M : Type 1} → statement M
-supported-spec =
-    tie.close
-    (tie.spec Inv-loop μ-loop nonzero-words-requires loop-holds word-number-requires mul-gathered add-gathered mul-gathered-2
-    element-copy-out-gathered gathered-requires (λ c κs. search needs) returns (λ c. search needs) (λ c. search needs) loop-again returns-2)
+supported-spec = tie.close (tie.spec (λ c κs. search needs) returns returns-2 widen-places-requires (λ c. search needs))

@@ -32,7 +32,7 @@ strike-requires c κs =
     let p = start .pre in
     let e = cut .cut-places .ensures .0 in
     let h = cut-known (p .0) _ _ (rows-known (p .0) (p .1) (p .2)) e in
-    (p .0, h .words, p .3)
+    (p .0, h .words, p .3, p .4)
 
 returns-2 : tie.Need-returns-2
 returns-2 c =

@@ -1,0 +1,144 @@
+-- Twins answer alike: closure, first solution and refusals go by the columns and by what the sheets allow. Why a sheet allows something is not
+-- looked into. Assumes nothing.
+use mathlib.Core.Path.{_≡_, refl, ap, ap₂, _∙_}
+use mathlib.Core.Bool.{Bool, true, cond, not, _&&_, _||_}
+use mathlib.Core.Option.{Option}
+use mathlib.Core.List.{List, [], _∷_}
+use Prim.Native.Nat.{ℕ, _+_, _<_}
+use lib.Dec.{eqb, ltb}
+use lib.ListN.{length, getD}
+use borrow.Author.Tests.{ltb-true}
+use Rattle.model.specs.Tests.{anyIn, oneIf}
+use Rattle.model.specs.Masks.{maskOf}
+use Rattle.model.specs.Stores.{has, Within, allFilled}
+use Rattle.model.specs.Choices.{pick, Takes, anyChoice}
+use Rattle.model.specs.Books.{Sheet, Book, columnCount, sheetAt, allows, WellFormed, supports, supportedIn, supported, closure}
+use Rattle.model.specs.Solutions.{formsRows, firstSolution}
+use Rattle.model.specs.Orders.{Entry, byKind, kind, depth, outside, refusal, isAccepted, push, permits, allowed, domains}
+use Rattle.model.specs.Answers.{assigned, statusOf, subsumed, doneOf, Answer, Outcome, stateOnly, outcomeNumber, outcomeMasks, finishOutcome, outcome, showing, answer, answersFrom, answers, acceptedFrom, acceptedCount}
+use Rattle.model.specs.Twins.{Combination, TwinSheets, Twins, TwinsAnswer}
+use Rattle.model.proofs.Tests.{and-l, allIn-same}
+use Rattle.model.proofs.Masks.{maskOf-same}
+use Rattle.model.proofs.Stores.{has-e}
+use Rattle.model.proofs.Closure.{closure-same}
+use Rattle.model.proofs.Choices.{firstChoice-same, anyChoice-same, getD-pick, length-pick, pick-e}
+use Rattle.model.proofs.Books.{supported-mono}
+use Rattle.model.proofs.Trails.{allowed-store, domains-store, domains-within}
+use Rattle.model.proofs.Rows.{in-list}
+
+-- ---- what is allowed is below V, so only combinations are met
+module _ (b : Book) (L : List Entry) where
+  allowed-below : (c v : ℕ) → has (allowed b L) c v ≡ true → v < getD (b .counts) c 0
+  unfolding allowed
+  allowed-below c v e =
+      ltb-true v (getD (b .counts) c 0) (and-l _ _ (has-e (columnCount b) (λ c v. ltb v (getD (b .counts) c 0) && permits L c v) c v e .2))
+
+  -- a choice from the domains of these columns
+  choice-combination : (B : List ℕ) → Within B (allowed b L) → (cs x : List ℕ) → Takes (pick B cs) x → Combination (b .counts) cs x
+  choice-combination B w cs x t =
+      record {
+        size = t .size ∙ length-pick B cs;
+        each = λ i l.
+            allowed-below (getD cs i 0) (getD x i 0) (w .at _ _ (pick-e B cs i (getD x i 0) (t .each i (rw (length-pick B cs) l)) .1));
+      }
+
+  -- the values in these columns of a choice from the current domains
+  picked-combination : (x : List ℕ) → Takes (domains b L) x → (cs : List ℕ) → ((i : ℕ) → i < length cs → getD cs i 0 < columnCount b)
+      → Combination (b .counts) cs (pick x cs)
+  picked-combination x t cs h =
+      record {
+        size = length-pick x cs;
+        each = λ i l.
+            rw (getD-pick x cs i l)
+            (allowed-below (getD cs i 0) _ (domains-within b L .at _ _ (t .each (getD cs i 0) (rw (domains-store b L .columns) (h i l)))));
+      }
+
+  -- ---- a sheet and its twin
+  supportedIn-twin : (s t : Sheet) → TwinSheets (b .counts) s t → (B : List ℕ) → Within B (allowed b L) → (c v : ℕ)
+      → supportedIn B c v s ≡ supportedIn B c v t
+  unfolding supportedIn
+  supportedIn-twin s t h B w c v =
+      ap (λ (u : Bool). not (anyIn (s .columns) (eqb c)) || u)
+      (anyChoice-same (pick B (s .columns)) (λ x. allows s x && supports (s .columns) x c v) (λ x. allows t x && supports (s .columns) x c v)
+      (λ x k. ap (λ (u : Bool). u && supports (s .columns) x c v) (h .same-allowed x (choice-combination B w (s .columns) x k))))
+      ∙ ap (λ (cs : List ℕ). not (anyIn cs (eqb c)) || anyChoice (pick B cs) (λ x. allows t x && supports cs x c v)) (h .same-columns)
+
+-- ---- a book b, and its twin with the sheets ts
+abbrev twin : Book → List Sheet → Book
+twin b ts = record { counts = b .counts; sheets = ts }
+
+module _ (b : Book) (p : WellFormed b) (ts : List Sheet) (h : Twins b (twin b ts)) where
+  domains-twin : (L : List Entry) → domains b L ≡ domains (twin b ts) L
+  unfolding domains closure allowed supported
+  domains-twin L =
+      closure-same (columnCount b) (supported b) (supported (twin b ts)) (supported-mono b) (supported-mono (twin b ts)) (allowed b L) (allowed-store b L)
+      (λ B w c v.
+      allIn-same _ (b .sheets) ts (supportedIn B c v) (h .as-many)
+      (λ s l. supportedIn-twin b L (sheetAt b s) (sheetAt (twin b ts) s) (h .sheets s l) B w c v))
+
+  forms-twin : (L : List Entry) (x : List ℕ) → Takes (domains b L) x → formsRows b x ≡ formsRows (twin b ts) x
+  unfolding formsRows
+  forms-twin L x t =
+      allIn-same _ (b .sheets) ts (λ s. allows s (pick x (s .columns))) (h .as-many)
+      (λ s l.
+      h .sheets s l .same-allowed (pick x (sheetAt b s .columns))
+      (picked-combination b L x t (sheetAt b s .columns) (p .sheet (sheetAt b s) (in-list _ (b .sheets) s l) .inside))
+      ∙ ap (λ (cs : List ℕ). allows (sheetAt (twin b ts) s) (pick x cs)) (h .sheets s l .same-columns))
+
+  first-twin : (L : List Entry) → firstSolution b (domains b L) ≡ firstSolution (twin b ts) (domains (twin b ts) L)
+  unfolding firstSolution
+  first-twin L =
+      firstChoice-same (domains b L) (formsRows b) (formsRows (twin b ts)) (forms-twin L) ∙ ap (firstSolution (twin b ts)) (domains-twin L)
+
+  done-twin : (D : List ℕ) → doneOf b D ≡ doneOf (twin b ts) D
+  unfolding doneOf subsumed
+  done-twin D =
+      ap (λ (n : ℕ). cond (allFilled (columnCount b) D) n 0)
+      (maskOf-same (length (b .sheets)) (λ s. subsumed D (sheetAt b s)) (λ s. subsumed D (sheetAt (twin b ts) s))
+      (λ s l. ap (λ (cs : List ℕ). subsumed D (record { columns = cs; rows = [] })) (h .sheets s l .same-columns))
+      ∙ ap (λ (n : ℕ). maskOf n (λ s. subsumed D (sheetAt (twin b ts) s))) (h .as-many))
+
+  -- ---- answers
+  showing-twin : (L : List Entry) (r : ℕ) (f : Outcome) → showing b L r f ≡ showing (twin b ts) L r f
+  unfolding showing statusOf assigned
+  showing-twin L r f =
+      ap₂
+      (λ (D : List ℕ) (n : ℕ).
+      record { refused = r; status = statusOf b D; depth = depth L; outcome = outcomeNumber f; done = n; shown = outcomeMasks (columnCount b) D f })
+      (domains-twin L) (done-twin (domains b L) ∙ ap (doneOf (twin b ts)) (domains-twin L))
+
+  outcome-twin : (L : List Entry) (o : List ℕ) → outcome b L o ≡ outcome (twin b ts) L o
+  unfolding outcome refusal outside
+  outcome-twin L o =
+      ap
+      (λ (x : Option (List ℕ)). cond (isAccepted b L o) (byKind (kind o) stateOnly stateOnly stateOnly (finishOutcome x) stateOnly) stateOnly)
+      (first-twin L)
+
+  answer-twin : (L : List Entry) (o : List ℕ) → answer b L o ≡ answer (twin b ts) L o
+  unfolding answer push refusal outside
+  answer-twin L o = showing-twin (push b L o) (refusal b L o) (outcome b L o) ∙ ap (showing (twin b ts) (push b L o) (refusal b L o)) (outcome-twin L o)
+
+  -- refusals and trails go by the columns alone
+  answers-twin : (os : List (List ℕ)) (L : List Entry) → answersFrom b L os ≡ answersFrom (twin b ts) L os
+  unfolding answersFrom push refusal outside
+  answers-twin [] L = refl
+  answers-twin (o ∷ os) L = ap₂ (λ (a : Answer) (l : List Answer). a ∷ l) (answer-twin L o) (answers-twin os (push b L o))
+
+  accepted-twin : (os : List (List ℕ)) (L : List Entry) → acceptedFrom b L os ≡ acceptedFrom (twin b ts) L os
+  unfolding acceptedFrom push refusal outside
+  accepted-twin [] L = refl
+  accepted-twin (o ∷ os) L = ap (λ (n : ℕ). oneIf (isAccepted b L o) + n) (accepted-twin os (push b L o))
+
+-- the claim of specs/Twins.antt
+pub twinsAnswer : TwinsAnswer
+twinsAnswer b c p h =
+    record {
+      every = λ os.
+          ap₂ (λ (a : Answer) (l : List Answer). a ∷ l) (showing-twin b p (c .sheets) k [] 0 stateOnly) (answers-twin b p (c .sheets) k os [])
+          ∙ ap (λ (counts : List ℕ). answers (record { counts = counts; sheets = c .sheets }) os) (h .same-counts);
+      accepted = λ os.
+          accepted-twin b p (c .sheets) k os [] ∙ ap (λ (counts : List ℕ). acceptedCount (record { counts = counts; sheets = c .sheets }) os) (h .same-counts);
+    }
+  where
+    k : Twins b (twin b (c .sheets))
+    k = record { same-counts = refl; as-many = h .as-many; sheets = h .sheets }

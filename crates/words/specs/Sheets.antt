@@ -122,7 +122,7 @@ pub record Supported (b : List ℕ) (s : ℕ) (W x y : List ℕ) : Type 0 where
   pub sound : (j v : ℕ) → j < 4 → bit v (getD y j 0) ≡ true → SetSupport b s W j v
   pub complete : (j v : ℕ) → j < 4 → bit v (getD x j 0) ≡ true → SetSupport b s W j v → bit v (getD y j 0) ≡ true
 
--- y has at each place no value but those with support, and of each row that is set the last five bits of its cell. So only of 255 values are missing
+-- y has at each place no value but those with support, and of each row that is set the last five bits of its cell. What is missing is carried by 255 alone
 pub record PlainSeen (b : List ℕ) (s : ℕ) (W y : List ℕ) : Type 0 where
   pub small : SmallSets y
   pub sound : (j v : ℕ) → j < 4 → bit v (getD y j 0) ≡ true → SetSupport b s W j v

@@ -18,10 +18,10 @@ use Rattle.model.specs.Tests.{Finds, FirstIn, NoneIn, oneIf}
 use Rattle.model.proofs.Firsts.{finds-empty, finds-more, finds-same, finds-any, finds-fours, firstIn-same, none-empty, none-more}
 use Rattle.model.proofs.Tests.{and-true, below, either, or-false-l, or-false-r}
 use Rattle.heads.specs.Blocks.{word, blockAt}
-use Rattle.book.specs.Bounds.{anyHigh, belowBounds, joined, overAt, overBounds, raisedRow, slackOf, turnOf, turned, turnedRow, BoundedSheet, Clears, SmallBounds, fourth, placeBound, usedRows, wrongIn}
+use Rattle.book.specs.Bounds.{anyHigh, belowBounds, joined, overBounds, raisedRow, slackOf, turnOf, turned, turnedRow, BoundedSheet, Clears, SmallBounds, fourth, placeBound, usedRows, wrongIn}
 use Rattle.heads.specs.Limits.{setAt}
 use Rattle.heads.specs.Heads.{rowsOf, widthOf}
-use Rattle.book.specs.Rows.{blocksOf, boundOf, firstBlock, isValue, isWrong, rowPlace, wrongBlock, wrongByte}
+use Rattle.book.specs.Rows.{blocksOf, boundOf, firstBlock, isValue, isWrong, rowPlace, wrongBlock, wrongByte, overAt}
 use Rattle.heads.proofs.Blocks.{block-byte}
 use Rattle.heads.proofs.Limits.{set-leb}
 use Rattle.book.proofs.Words.{below-each, by-bytes, either-bytes, high-bytes, high-each, high-or, high-over, high-zero, joined-bit, joined-le, joined-lt, minus-bytes, one-small, plain-over, raised-bytes, turn-over, turned-bytes}

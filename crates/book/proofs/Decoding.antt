@@ -17,9 +17,9 @@ use Rattle.model.proofs.Tests.{and-true, below, either, getD-tab, length-tab}
 use Rattle.heads.specs.Blocks.{RightChecks, RightLength, blockAt, blockCount, word}
 use Rattle.book.specs.Decoding.{AcceptedWellFormed, bookOf, rowOf, sheetOf}
 use Rattle.heads.specs.Heads.{RightHead, columnOf, columnsOf, rowsOf, sheetsOf, valuesOf, widthOf}
-use Rattle.book.specs.Rows.{RowFault, blocksNeeded, blocksOf, clean, fault, firstBlock, firstFault, notZero, rowPlace, tooLarge, wrongBlock, wrongByte, wrongSheet}
+use Rattle.book.specs.Rows.{RowFault, blocksNeeded, blocksOf, clean, fault, firstBlock, firstFault, notZero, rowPlace, tooLarge, wrongBlock, wrongByte, wrongSheet, overAt}
 use Rattle.book.specs.Verdicts.{Accepted, checkResult, numberOf, rowVerdict}
-use Rattle.book.specs.Bounds.{joined, overAt, placeBound}
+use Rattle.book.specs.Bounds.{joined, placeBound}
 use Rattle.book.specs.Places.{wrongCell}
 use Rattle.book.proofs.Bounds.{any-joined, wrong-used}
 use Rattle.book.proofs.Rows.{clean-none, firstBlock-later, row-byte}

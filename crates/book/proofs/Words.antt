@@ -12,7 +12,8 @@ use Rattle.model.specs.Masks.{bit}
 use Rattle.model.specs.Tests.{oneIf}
 use Rattle.model.proofs.Masks.{bit-or}
 use Rattle.model.proofs.Tests.{and-false, and-l, and-r, and-true, below, either, or-false-l, or-false-r, or-l, or-mono, or-r, or-swap}
-use Rattle.book.specs.Bounds.{anyHigh, belowBounds, joined, overAt, slackOf, turnOf, turned, SmallTurn}
+use Rattle.book.specs.Rows.{overAt}
+use Rattle.book.specs.Bounds.{anyHigh, belowBounds, joined, slackOf, turnOf, turned, SmallTurn}
 
 -- ---- the highest bits of the four bytes of a number
 -- the last digit of m / 2 ^ v is the highest bit of the byte p: then bit v of m tells whether p is 128 or more

@@ -1,20 +1,19 @@
 -- What the inner functions of the check promise: how they look at a block. The promise of the check does not speak of these, so a reader of
 -- it may pass over this page.
 use mathlib.Core.Path.{_≡_}
-use mathlib.Core.Bool.{Bool, false, cond, not, _&&_, _||_}
+use mathlib.Core.Bool.{Bool, false, cond, _&&_, _||_}
 use mathlib.Core.List.{List}
 use Prim.Native.Nat.{ℕ, zero, suc, _+_, _*_, _-_, _/_, _%_, _^_, _≤_, _<_}
-use lib.Dec.{eqb, ltb, leb}
+use lib.Dec.{eqb, ltb}
 use lib.Bits.{bitOr}
 use lib.ListN.{length}
-use Rattle.model.specs.Books.{isAny}
 use Rattle.model.specs.Masks.{bit}
 use Rattle.model.specs.Tests.{NoneIn, oneIf}
 use Rattle.heads.specs.Blocks.{word}
 use Rattle.fields.specs.Bytes.{byteAt}
 use Rattle.heads.specs.Heads.{columnOf, valuesOf, widthOf}
 use Rattle.heads.specs.Limits.{setAt}
-use Rattle.book.specs.Rows.{RowFault, blocksOf, clean, fault, firstBlock}
+use Rattle.book.specs.Rows.{RowFault, blocksOf, clean, fault, firstBlock, overAt}
 use Rattle.book.specs.Verdicts.{faultVerdict, numberOf}
 
 -- ---- a block and its bounds
@@ -29,10 +28,6 @@ fourth w x y z j = cond (eqb j 0) w (cond (eqb j 1) x (cond (eqb j 2) y z))
 -- how many rows of block q are used where the sheet has n
 abbrev pub usedRows : ℕ → ℕ → ℕ
 usedRows n q = cond (ltb (n - 127 * q) 127) (n - 127 * q) 127
-
--- byte x is over its bound m: not below it, and not 255 where it is a value
-abbrev pub overAt : Bool → ℕ → ℕ → Bool
-overAt value m x = leb m x && not (value && isAny x)
 
 -- byte i of a block is wrong where its rows' bytes, of which the first k are values, have to be below w, x, y, z, and its first n bytes are those
 -- of used rows. A first look takes 0 for k, so that 255 is wrong too

@@ -34,9 +34,13 @@ isValue b s r j = ltb r (rowsOf b s) && ltb j (widthOf b s)
 unfoldable pub boundOf : List ℕ → ℕ → ℕ → ℕ → ℕ
 boundOf b s r j = cond (isValue b s r j) (valuesOf b (columnOf b s j)) 1
 
--- it is wrong where it is x: not below its bound, and not 255 in place of a value. "Refusal 5 lets 255 pass."
+-- byte x is over its bound m: not below it, and not 255 where it is a value. "Refusal 5 lets 255 pass."
+abbrev pub overAt : Bool → ℕ → ℕ → Bool
+overAt value m x = leb m x && not (value && isAny x)
+
+-- byte j of row r of sheet s is wrong where it is x
 unfoldable pub isWrong : List ℕ → ℕ → ℕ → ℕ → ℕ → Bool
-isWrong b s r j x = leb (boundOf b s r j) x && not (isValue b s r j && isAny x)
+isWrong b s r j x = overAt (isValue b s r j) (boundOf b s r j) x
 
 -- byte i of block q of sheet s, i < 508, is wrong: it belongs to row 127 q + i / 4
 unfoldable pub wrongByte : List ℕ → ℕ → ℕ → ℕ → Bool

@@ -26,8 +26,8 @@ ghost use lib.ListN.{length};
 ghost use Rattle.model.specs.Tests.{FirstIn, Finds, NoneIn, oneIf};
 ghost use Rattle.heads.specs.Blocks.{word};
 ghost use Rattle.heads.specs.Heads.{sheetsOf, RightHead};
-ghost use Rattle.book.specs.Rows.{blocksOf, firstBlock, blocksNeeded, wrongBlock};
-ghost use Rattle.book.specs.Bounds.{fourth, placeBound, usedRows, wrongIn, overAt, overBounds, RowBounds, SmallBounds, SheetThere, BoundedSheet, joined, belowBounds, anyHigh, raisedRow, slackOf, SmallTurn, turnOf, turned, turnedRow};
+ghost use Rattle.book.specs.Rows.{blocksOf, firstBlock, blocksNeeded, wrongBlock, overAt};
+ghost use Rattle.book.specs.Bounds.{fourth, placeBound, usedRows, wrongIn, overBounds, RowBounds, SmallBounds, SheetThere, BoundedSheet, joined, belowBounds, anyHigh, raisedRow, slackOf, SmallTurn, turnOf, turned, turnedRow};
 
 // The blocks of sheet s.
 pub fn blocks_of(h: &[u8], s: usize) -> usize

@@ -12,7 +12,7 @@ use Rattle.fields.specs.Bytes.{byteAt}
 use Rattle.model.specs.Books.{isAny}
 use Rattle.model.specs.Masks.{bit}
 use Rattle.model.proofs.Masks.{bit-and, bit-of-zero, bit-or, bit-pow, bit-pow-only}
-use Rattle.model.proofs.Tests.{and-i, below, or-e, or-l, or-r}
+use Rattle.model.proofs.Tests.{and-i, below, or-e, or-l, or-r, zeros-at}
 use Rattle.heads.specs.Blocks.{blockAt, word}
 use Rattle.heads.specs.Heads.{columnOf, rowsOf, sheetsOf, widthOf}
 use Rattle.book.specs.Bounds.{joined}
@@ -23,7 +23,6 @@ use Rattle.cells.specs.Cells.{cellPlace}
 use Rattle.cells.proofs.Walks.{four-all, shifted-one}
 use Rattle.words.specs.Sheets.{ShortPlaces, firstByte, valueAt}
 use Rattle.engine.specs.Layouts.{ColumnsIn, LayoutOf}
-use Rattle.engine.proofs.Worklists.{zeros-at}
 
 -- ---- the columns of a sheet
 

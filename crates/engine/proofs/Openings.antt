@@ -19,7 +19,7 @@ use Rattle.model.specs.Stores.{has, storeOf}
 use Rattle.model.proofs.Books.{in-domain-i, matches-any, matches-self}
 use Rattle.model.proofs.Masks.{bit-maskOf, bit-maskOf-out, bit-of-zero, mask-ext, maskOf-lt, maskOf-same, ones32, ones64}
 use Rattle.model.proofs.Rows.{word-same}
-use Rattle.model.proofs.Tests.{and-true, below, getD-tab, length-tab, same-test}
+use Rattle.model.proofs.Tests.{and-true, below, getD-tab, length-tab, same-test, zeros-at}
 use Rattle.book.specs.Decoding.{bookOf}
 use Rattle.heads.specs.Heads.{columnOf, columnsOf, rowsOf, sheetsOf, valuesOf, widthOf}
 use Rattle.book.specs.Verdicts.{Accepted}
@@ -32,7 +32,7 @@ use Rattle.words.proofs.Places.{cell-value, valid-e, valid-i}
 use Rattle.engine.specs.Openings.{FullDomains, FullIndex, FullRows, FullWord, FullWords, SixtyFour, placesBelow}
 use Rattle.engine.specs.Propagation.{Ready, Propagated, storeIn}
 use Rattle.engine.proofs.Propagation.{at-sheet, columns-count, count-at}
-use Rattle.engine.proofs.Worklists.{eight-sheets, zeros-at}
+use Rattle.engine.proofs.Worklists.{eight-sheets}
 
 -- ---- masks of places below a number
 pub places-none : placesBelow 0 ≡ 0

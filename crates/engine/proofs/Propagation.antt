@@ -22,7 +22,7 @@ use Rattle.model.proofs.Closure.{between-rest, between-strike, closure-store, c
 use Rattle.model.proofs.Masks.{bit-below, bit-of-zero, bit-or, mask-ext}
 use Rattle.model.proofs.Rows.{words-same, word-same}
 use Rattle.model.proofs.Stores.{in-store, within-trans, empty-has, empty-store}
-use Rattle.model.proofs.Tests.{allIn-e, allIn-i, and-i, and-r, below, either, getD-tab, getD-tab-out, length-tab, or-e, or-false-l, or-false-r}
+use Rattle.model.proofs.Tests.{allIn-e, allIn-i, and-i, and-r, below, either, getD-tab, getD-tab-out, length-tab, or-e, or-false-l, or-false-r, zeros-at}
 use Rattle.book.specs.Decoding.{bookOf, sheetOf}
 use Rattle.heads.specs.Heads.{columnOf, columnsOf, sheetsOf, valuesOf, widthOf}
 use Rattle.book.specs.Verdicts.{Accepted}
@@ -33,7 +33,7 @@ use Rattle.words.proofs.Places.{column-value, columns-size, formed, sheet-at, s
 use Rattle.engine.specs.Layouts.{LayoutOf}
 use Rattle.engine.specs.Propagation.{Fixpoint, Ready, closureIn, storeIn, Propagated}
 use Rattle.engine.specs.Worklists.{Woken, touches}
-use Rattle.engine.proofs.Worklists.{eight-sheets, touched-sheet, untouched-column, woken-same, zeros-at}
+use Rattle.engine.proofs.Worklists.{eight-sheets, touched-sheet, untouched-column, woken-same}
 
 -- ---- stores in an array of sixteen domains
 module _ (b : List ℕ) where

@@ -10,7 +10,7 @@ use native.Mathlib.Omega.{arith}
 use lib.Arith.{lt-of-le-ne}
 use lib.Bits.{and-le-l, and-zero-l, and-zero-r, bitAnd, bitOr, or-lt, or-zero-r}
 use lib.Dec.{eqb, ltb}
-use lib.ListN.{List·getD-eq-default, getD, getD-replicate, length, length-replicate, length-set, replicate, set}
+use lib.ListN.{getD, length, length-set, set}
 use lib.Pow.{pow-lt}
 use lib.Seq.{getD-set-other, getD-set-same}
 use borrow.Author.Tests.{eqb-false, eqb-true, le-ltb, lt-ltb, not-false}
@@ -55,14 +55,6 @@ module _ (b : List ℕ) (acc : Accepted b) where
 
   pub rows-end : (s : ℕ) → s < sheetsOf b → firstByte b s + 512 * blocksOf b s ≤ 16896
   rows-end s l = omega (arith, right-length b (accepted-right b acc .length-right), rows-there s l)
-
--- a list of zeros
-pub zeros-at : (n c : ℕ) → _≡_ {A = ℕ} (getD (replicate n 0) c 0) 0
-zeros-at n c = go (below c n)
-  where
-    go : (c < n) ⊎ (n ≤ c) → _≡_ {A = ℕ} (getD (replicate n 0) c 0) 0
-    go (inl l) = getD-replicate n c 0 0 l
-    go (inr l) = List·getD-eq-default (replicate n 0) 0 (omega (arith, length-replicate {A = ℕ} n 0))
 
 -- another number than n is below n + 1 exactly when it is below n
 ltb-next : (f n : ℕ) → (f ≡ n → ⊥) → ltb f n ≡ ltb f (n + 1)

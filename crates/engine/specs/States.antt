@@ -18,6 +18,10 @@ pub record StateIs (b : List ℕ) (L : List Entry) (st : State) : Type 0 where
   pub store : IsStore 16 (st .dom)
   pub sized : Sized (st .valid) (st .index) (st .nonzero)
 
+-- a state by its arrays
+abbrev pub stateOf : List ℕ → List ℕ → List ℕ → List ℕ → State
+stateOf D W X N = record { dom = D; valid = W; index = X; nonzero = N }
+
 -- a state of some trail
 pub record SomeState (b : List ℕ) (st : State) : Type 0 where
   pub trail : List Entry

@@ -12,7 +12,7 @@ use Rattle.model.specs.Search.{openColumn, valueOf, searchFrom, searchSo
 use Rattle.model.specs.Orders.{wrongPlace, someWrong, depth, before, firstCause, outside, refusal, push, trailFrom, permits, allowed, domains}
 use Rattle.model.specs.Answers.{assigned, statusOf, subsumed, doneOf, outcome, showing, answer, answersFrom, lastFrom, acceptedFrom, domainBytes, answerBytes}
 use Rattle.model.specs.WrittenOut.{writtenCell, writtenRow, writtenSheet, writtenOut}
-use Rattle.model.specs.Acceptance.{TenFacts, SevenLines, SearchFacts, RefusalFacts, ByteFacts, WrittenOutFacts, MayDiffer}
+use Rattle.model.specs.Acceptance.{TenFacts, SevenLines, SearchFacts, RefusalFacts, ByteFacts, WrittenOutFacts, DoneFacts, MayDiffer}
 
 -- opens every definition that an example computes with
 unfoldable pub computing : Unit {0}
@@ -80,6 +80,20 @@ byteFacts = record { narrow-bytes = refl; finish-bytes = refl }
 pub writtenOutFacts : WrittenOutFacts
 unfolding tab flatMap writtenCell writtenRow writtenSheet writtenOut
 writtenOutFacts = record { one = refl; two = refl; harbour = refl }
+
+pub doneFacts : DoneFacts
+unfolding computing
+doneFacts =
+    record {
+      all-four = refl;
+      one-missing = refl;
+      row-twice = refl;
+      five = refl;
+      five-narrowed = refl;
+      any-and-plain = refl;
+      any-and-one = refl;
+      failed = refl;
+    }
 
 pub mayDiffer : MayDiffer
 unfolding computing

@@ -1,6 +1,6 @@
 -- Laws of choices: the first that passes is the least, and none is found exactly when none passes. Assumes nothing.
 use mathlib.Core.Path.{_≡_, refl, sym, ap, ap₂, _∙_, subst, subst⁻¹}
-use mathlib.Core.Bool.{Bool, true, false, cond, false≢true}
+use mathlib.Core.Bool.{Bool, true, false, cond, not, false≢true}
 use mathlib.Core.Logic.{_⊎_, inl, inr, _↔_}
 use mathlib.Core.Option.{Option, none, some}
 use mathlib.Core.List.{List, [], _∷_}
@@ -8,9 +8,10 @@ use Prim.Native.Nat.{ℕ, zero, suc, _^_, _≤_, _<_}
 use native.Mathlib.Nat.{not-suc-le-zero, le-of-suc-le-suc, zero-lt-suc}
 use native.Mathlib.Omega.{arith}
 use lib.ListN.{length, getD, length-map, List·getD-eq-default}
+use borrow.Author.Tests.{not-true}
 use Rattle.model.specs.Masks.{bit}
 use Rattle.model.specs.Stores.{has, Within}
-use Rattle.model.specs.Choices.{pick, Takes, Lower, First, firstOf, lead, firstChoice, anyChoice}
+use Rattle.model.specs.Choices.{pick, Takes, Lower, First, firstOf, lead, firstChoice, anyChoice, everyChoice}
 use Rattle.model.proofs.Tests.{either, same-test, anyBelow-e, anyBelow-i, below}
 use Rattle.model.proofs.Masks.{bit-of-zero, bit-below}
 
@@ -126,10 +127,10 @@ takes-head : {m : ℕ} {B : List ℕ} {v : ℕ} {x : List ℕ} → Takes (m ∷ 
 unfolding has
 takes-head {m} {B} t = t .each 0 (zero-lt-suc (length B))
 
-takes-nil : Takes [] []
+pub takes-nil : Takes [] []
 takes-nil = record { size = refl; each = λ c l. absurd (not-suc-le-zero l) }
 
-takes-cons : {m : ℕ} {B : List ℕ} {v : ℕ} {x : List ℕ} → bit v m ≡ true → Takes B x → Takes (m ∷ B) (v ∷ x)
+pub takes-cons : {m : ℕ} {B : List ℕ} {v : ℕ} {x : List ℕ} → bit v m ≡ true → Takes B x → Takes (m ∷ B) (v ∷ x)
 unfolding has
 takes-cons {m} {B} {v} {x} e t = record { size = ap suc (t .size); each = at }
   where
@@ -304,6 +305,27 @@ anyChoice-weaker (m ∷ B) p q h e =
 pub anyChoice-same : (B : List ℕ) (p q : List ℕ → Bool) → ((x : List ℕ) → Takes B x → p x ≡ q x) → anyChoice B p ≡ anyChoice B q
 anyChoice-same B p q h =
     same-test _ _ (anyChoice-weaker B p q (λ x t e. sym (h x t) ∙ e)) (anyChoice-weaker B q p (λ x t e. h x t ∙ e))
+
+-- every choice passes
+pub everyChoice-iff : (B : List ℕ) → Small B → (p : List ℕ → Bool) → (everyChoice B p ≡ true) ↔ ((x : List ℕ) → Takes B x → p x ≡ true)
+everyChoice-iff B h p = (to, from)
+  where
+    to : everyChoice B p ≡ true → (x : List ℕ) → Takes B x → p x ≡ true
+    to e x t = go (either (p x))
+      where
+        go : (p x ≡ true) ⊎ (p x ≡ false) → p x ≡ true
+        go (inl q) = q
+        go (inr q) = absurd (false≢true (sym (not-true _ e) ∙ anyChoice-i B h (λ x. not (p x)) x t (ap not q)))
+
+    from : ((x : List ℕ) → Takes B x → p x ≡ true) → everyChoice B p ≡ true
+    from k = go (either (anyChoice B (λ x. not (p x))))
+      where
+        go : (anyChoice B (λ x. not (p x)) ≡ true) ⊎ (anyChoice B (λ x. not (p x)) ≡ false) → everyChoice B p ≡ true
+        go (inl e) = let r = anyChoice-e B (λ x. not (p x)) e in absurd (false≢true (sym (not-true _ (r .2)) ∙ k (r .0) (r .1)))
+        go (inr e) = ap not e
+
+pub everyChoice-same : (B : List ℕ) (p q : List ℕ → Bool) → ((x : List ℕ) → Takes B x → p x ≡ q x) → everyChoice B p ≡ everyChoice B q
+everyChoice-same B p q h = ap not (anyChoice-same B (λ x. not (p x)) (λ x. not (q x)) (λ x t. ap not (h x t)))
 
 -- more values, more choices
 pub anyChoice-mono : (B A : List ℕ) → length B ≡ length A → Within B A → (p : List ℕ → Bool) → anyChoice B p ≡ true → anyChoice A p ≡ true

@@ -1,25 +1,25 @@
 -- The claims of specs/Demands.antt, proved. Assumes nothing.
 use mathlib.Core.Path.{_≡_, refl, sym, ap, ap₂, _∙_, subst}
-use mathlib.Core.Bool.{Bool, true, false, not, _&&_, _||_, false≢true, true≢false}
+use mathlib.Core.Bool.{Bool, true, false, cond, not, _&&_, _||_, false≢true, true≢false}
 use mathlib.Core.Logic.{_⊎_, inl, inr, _↔_}
 use mathlib.Core.Option.{Option, none, some}
 use mathlib.Core.List.{List, [], _∷_, _++_}
-use Prim.Native.Nat.{ℕ, suc, _+_, _-_, _<_}
+use Prim.Native.Nat.{ℕ, suc, _+_, _-_, _≤_, _<_}
 use native.Mathlib.Omega.{arith}
 use lib.Dec.{eqb, leb}
-use lib.ListN.{getD}
+use lib.ListN.{getD, length}
 use borrow.Author.Tests.{eq-eqb, lt-leb}
 use Rattle.model.specs.Tests.{oneIf}
-use Rattle.model.specs.Masks.{bit}
+use Rattle.model.specs.Masks.{bit, maskOf}
 use Rattle.model.specs.Stores.{has, IsStore, Within, emptyStore, allFilled}
 use Rattle.model.specs.Choices.{Lower}
-use Rattle.model.specs.Books.{Book, columnCount, WellFormed, ConsistentStore, Stays, Fails, closure}
+use Rattle.model.specs.Books.{Book, columnCount, sheetAt, WellFormed, ConsistentStore, Stays, Fails, closure}
 use Rattle.model.specs.Solutions.{Solution, FirstSolution, firstSolution}
 use Rattle.model.specs.Orders.{kind, argument, mask, zeroPlaces, someWrong, Entry, narrowed, checkpoint, depth as depthOf, firstCause, outside, refusal, AcceptedFinish, push, allowed, domains}
-use Rattle.model.specs.Answers.{assigned, statusOf, doneOf, stateOnly, outcomeNumber, outcomeMasks, finishOutcome, outcome, showing, answer, answersFrom, acceptedFrom, domainBytes, answerBytes}
-use Rattle.model.specs.Demands.{ChangesNothing, unrefused, unmasked, Demand2, ShowsState, ShowsFinish, EveryAnswer, SameAllowed, SameFinish, Claim1, Claim2}
+use Rattle.model.specs.Answers.{assigned, statusOf, Subsumed, subsumed, doneOf, stateOnly, outcomeNumber, outcomeMasks, finishOutcome, outcome, showing, answer, answersFrom, acceptedFrom, domainBytes, answerBytes}
+use Rattle.model.specs.Demands.{ChangesNothing, unrefused, unmasked, Demand2, ShowsState, ShowsFinish, EveryAnswer, DoneExactly, SameAllowed, SameFinish, Claim1, Claim2}
 use Rattle.model.proofs.Tests.{and-false, either}
-use Rattle.model.proofs.Masks.{bit-of-zero}
+use Rattle.model.proofs.Masks.{bit-maskOf, bit-maskOf-out, bit-of-zero}
 use Rattle.model.proofs.Stores.{store-ext, empty-has, filled-e, filled-i}
 use Rattle.model.proofs.Choices.{opt}
 use Rattle.model.proofs.Books.{stays-iff, fails-iff, closed-or-empty}
@@ -27,6 +27,7 @@ use Rattle.model.proofs.Solutions.{found-iff, none-iff, has-first, solu
 use Rattle.model.proofs.Search.{search-first}
 use Rattle.model.proofs.Trails.{allowed-store, domains-store, domains-closed, domains-mono, narrowed-e}
 use Rattle.model.proofs.Answers.{answer-finish, answer-other, answer-refused, bytes-0, bytes-8-on}
+use Rattle.model.proofs.Subsumptions.{subsumed-iff}
 use Rattle.model.proofs.Refusals.{refusal-depth, outside-none, refusal-narrow, accepted-narrow, push-refused, push-narrow}
 
 -- ---- demand 1
@@ -237,6 +238,37 @@ finish-same b L M o e f g =
           ∙ ap (λ (D : List ℕ). getD (domainBytes (outcomeMasks (columnCount b) D (finishOutcome (firstSolution b D))) 16) (i - 8) 0) e
           ∙ sym (bytes-8-on v i p);
     })
+
+-- ---- done
+module _ (b : Book) (L : List Entry) where
+  abbrev D : List ℕ
+  D = domains b L
+
+  abbrev filled : Bool
+  filled = allFilled (columnCount b) (domains b L)
+
+  abbrev bits : ℕ
+  bits = maskOf (length (b .sheets)) (λ s. subsumed (domains b L) (sheetAt b s))
+
+  alive : (t : Bool) → _≡_ {A = ℕ} (cond t 2 1) 0 → ⊥
+  alive true z = omega arith
+  alive false z = omega arith
+
+  pub doneExactly : DoneExactly b (domains b L) (statusOf b (domains b L)) (doneOf b (domains b L))
+  unfolding doneOf statusOf
+  doneExactly = record { of-sheet = λ s l. of-sheet s l (either filled); past = λ s l. past s l (either filled) }
+    where
+      of-sheet : (s : ℕ) → s < length (b .sheets) → (filled ≡ true) ⊎ (filled ≡ false)
+          → (bit s (cond filled bits 0) ≡ true) ↔ ((_≡_ {A = ℕ} (cond filled (cond (assigned b D) 2 1) 0) 0 → ⊥) × Subsumed D (sheetAt b s))
+      of-sheet s l (inl e) =
+          let k = subsumed-iff D (domains-store b L .bits) (sheetAt b s) in
+          let same = bit-maskOf (length (b .sheets)) (λ s. subsumed D (sheetAt b s)) s l in
+          rw e (λ p. (alive (assigned b D), k .0 (sym same ∙ p)), λ p. same ∙ k .1 (p .1))
+      of-sheet s l (inr e) = rw e (λ p. absurd (false≢true (sym (bit-of-zero s) ∙ p)), λ p. absurd (p .0 refl))
+
+      past : (s : ℕ) → length (b .sheets) ≤ s → (filled ≡ true) ⊎ (filled ≡ false) → bit s (cond filled bits 0) ≡ false
+      past s l (inl e) = rw e (bit-maskOf-out (length (b .sheets)) (λ s. subsumed D (sheetAt b s)) s l)
+      past s l (inr e) = rw e (bit-of-zero s)
 
 -- the wider's first solution is the same as the narrower's or lower
 pub wider-first : (b : Book) (L M : List Entry) → Within (allowed b L) (allowed b M) → (x : List ℕ) → FirstSolution b (domains b L) x

@@ -6,6 +6,7 @@ pub mod Masks
 pub mod Stores
 pub mod Closure
 pub mod Choices
+pub mod Tallies
 pub mod Books
 pub mod Solutions
 pub mod Search
@@ -13,6 +14,7 @@ pub mod Trails
 pub mod Refusals
 pub mod Answers
 pub mod Rows
+pub mod Subsumptions
 pub mod OneSheet
 pub mod Demands
 pub mod Twins

@@ -48,7 +48,7 @@ valid-i D (c ∷ cs) [] e h = absurd (omega arith)
 valid-i D (c ∷ cs) (x ∷ r) e h =
     and-i (h 0 (zero-lt-suc (length cs))) (valid-i D cs r (omega arith) (λ i l. h (suc i) (omega arith)))
 
-row-matches-e : (r t : List ℕ) → rowMatches r t ≡ true → (length r ≡ length t) × ((i : ℕ) → i < length t → matches (getD r i 0) (getD t i 0) ≡ true)
+pub row-matches-e : (r t : List ℕ) → rowMatches r t ≡ true → (length r ≡ length t) × ((i : ℕ) → i < length t → matches (getD r i 0) (getD t i 0) ≡ true)
 unfolding rowMatches
 row-matches-e [] [] e = (refl, λ i l. absurd (not-suc-le-zero l))
 row-matches-e [] (v ∷ t) e = absurd (false≢true e)
@@ -63,8 +63,15 @@ row-matches-e (x ∷ r) (v ∷ t) e = go (row-matches-e r t (and-r (matches x v)
         at zero l = and-l (matches x v) _ e
         at (suc i) l = h .1 i (le-of-suc-le-suc l)
 
+pub row-matches-i : (r t : List ℕ) → length r ≡ length t → ((i : ℕ) → i < length t → matches (getD r i 0) (getD t i 0) ≡ true) → rowMatches r t ≡ true
+unfolding rowMatches
+row-matches-i [] [] e h = refl
+row-matches-i [] (v ∷ t) e h = absurd (omega arith)
+row-matches-i (x ∷ r) [] e h = absurd (omega arith)
+row-matches-i (x ∷ r) (v ∷ t) e h = and-i (h 0 (zero-lt-suc (length t))) (row-matches-i r t (omega arith) (λ i l. h (suc i) (omega arith)))
+
 -- a row that matches a choice from the domains is valid in them
-matched-valid : (D cs r t : List ℕ) → rowMatches r t ≡ true → Takes (pick D cs) t → valid D cs r ≡ true
+pub matched-valid : (D cs r t : List ℕ) → rowMatches r t ≡ true → Takes (pick D cs) t → valid D cs r ≡ true
 unfolding has
 matched-valid D cs r t e h =
     let m = row-matches-e r t e in

@@ -7,7 +7,7 @@ use Prim.Native.Nat.{_+_, _<_, _≤_, suc, zero, ℕ}
 use native.Mathlib.Nat.{le-of-suc-le-suc, le-refl, not-suc-le-zero, zero-lt-suc}
 use native.Mathlib.Omega.{arith}
 use lib.Dec.{eqb, ltb}
-use lib.ListN.{List·getD-eq-default, getD, length}
+use lib.ListN.{List·getD-eq-default, getD, getD-replicate, length, length-replicate, replicate}
 use borrow.Author.Tests.{eq-eqb, eqb-true, ltb-false, ltb-true}
 use Rattle.model.specs.Tests.{allBelow, allIn, anyBelow, anyIn, count, eqList, lowest, oneIf, sum, tab}
 
@@ -357,3 +357,11 @@ below a b = go (either (ltb a b))
     go : (ltb a b ≡ true) ⊎ (ltb a b ≡ false) → (a < b) ⊎ (b ≤ a)
     go (inl p) = inl (ltb-true a b p)
     go (inr q) = inr (ltb-false a b q)
+
+-- a list of zeros
+pub zeros-at : (n c : ℕ) → _≡_ {A = ℕ} (getD (replicate n 0) c 0) 0
+zeros-at n c = go (below c n)
+  where
+    go : (c < n) ⊎ (n ≤ c) → _≡_ {A = ℕ} (getD (replicate n 0) c 0) 0
+    go (inl l) = getD-replicate n c 0 0 l
+    go (inr l) = List·getD-eq-default (replicate n 0) 0 (omega (arith, length-replicate {A = ℕ} n 0))

@@ -11,7 +11,7 @@ use borrow.Author.Tests.{ltb-true}
 use Rattle.model.specs.Tests.{anyIn, oneIf}
 use Rattle.model.specs.Masks.{maskOf}
 use Rattle.model.specs.Stores.{has, Within, allFilled}
-use Rattle.model.specs.Choices.{pick, Takes, anyChoice}
+use Rattle.model.specs.Choices.{pick, Takes, anyChoice, everyChoice}
 use Rattle.model.specs.Books.{Sheet, Book, columnCount, sheetAt, allows, WellFormed, supports, supportedIn, supported, closure}
 use Rattle.model.specs.Solutions.{formsRows, firstSolution}
 use Rattle.model.specs.Orders.{Entry, byKind, kind, depth, outside, refusal, isAccepted, push, permits, allowed, domains}
@@ -21,7 +21,7 @@ use Rattle.model.proofs.Tests.{and-l, allIn-same}
 use Rattle.model.proofs.Masks.{maskOf-same}
 use Rattle.model.proofs.Stores.{has-e}
 use Rattle.model.proofs.Closure.{closure-same}
-use Rattle.model.proofs.Choices.{firstChoice-same, anyChoice-same, getD-pick, length-pick, pick-e}
+use Rattle.model.proofs.Choices.{firstChoice-same, anyChoice-same, everyChoice-same, getD-pick, length-pick, pick-e}
 use Rattle.model.proofs.Books.{supported-mono}
 use Rattle.model.proofs.Trails.{allowed-store, domains-store, domains-within}
 use Rattle.model.proofs.Rows.{in-list}
@@ -90,13 +90,21 @@ module _ (b : Book) (p : WellFormed b) (ts : List Sheet) (h : Twins b (twin b ts
   first-twin L =
       firstChoice-same (domains b L) (formsRows b) (formsRows (twin b ts)) (forms-twin L) ∙ ap (firstSolution (twin b ts)) (domains-twin L)
 
-  done-twin : (D : List ℕ) → doneOf b D ≡ doneOf (twin b ts) D
-  unfolding doneOf subsumed
-  done-twin D =
-      ap (λ (n : ℕ). cond (allFilled (columnCount b) D) n 0)
-      (maskOf-same (length (b .sheets)) (λ s. subsumed D (sheetAt b s)) (λ s. subsumed D (sheetAt (twin b ts) s))
-      (λ s l. ap (λ (cs : List ℕ). subsumed D (record { columns = cs; rows = [] })) (h .sheets s l .same-columns))
-      ∙ ap (λ (n : ℕ). maskOf n (λ s. subsumed D (sheetAt (twin b ts) s))) (h .as-many))
+  -- of the current domains, which have no value from V on
+  subsumed-twin : (L : List Entry) (s : ℕ) → s < length (b .sheets) → subsumed (domains b L) (sheetAt b s) ≡ subsumed (domains b L) (sheetAt (twin b ts) s)
+  unfolding subsumed
+  subsumed-twin L s l =
+      let k = h .sheets s l in
+      everyChoice-same (pick (domains b L) (sheetAt b s .columns)) (allows (sheetAt b s)) (allows (sheetAt (twin b ts) s))
+      (λ x t. k .same-allowed x (choice-combination b L (domains b L) (domains-within b L) (sheetAt b s .columns) x t))
+      ∙ ap (λ (cs : List ℕ). everyChoice (pick (domains b L) cs) (allows (sheetAt (twin b ts) s))) (k .same-columns)
+
+  done-twin : (L : List Entry) → doneOf b (domains b L) ≡ doneOf (twin b ts) (domains b L)
+  unfolding doneOf
+  done-twin L =
+      ap (λ (n : ℕ). cond (allFilled (columnCount b) (domains b L)) n 0)
+      (maskOf-same (length (b .sheets)) (λ s. subsumed (domains b L) (sheetAt b s)) (λ s. subsumed (domains b L) (sheetAt (twin b ts) s)) (subsumed-twin L)
+      ∙ ap (λ (n : ℕ). maskOf n (λ s. subsumed (domains b L) (sheetAt (twin b ts) s))) (h .as-many))
 
   -- ---- answers
   showing-twin : (L : List Entry) (r : ℕ) (f : Outcome) → showing b L r f ≡ showing (twin b ts) L r f
@@ -105,7 +113,7 @@ module _ (b : Book) (p : WellFormed b) (ts : List Sheet) (h : Twins b (twin b ts
       ap₂
       (λ (D : List ℕ) (n : ℕ).
       record { refused = r; status = statusOf b D; depth = depth L; outcome = outcomeNumber f; done = n; shown = outcomeMasks (columnCount b) D f })
-      (domains-twin L) (done-twin (domains b L) ∙ ap (doneOf (twin b ts)) (domains-twin L))
+      (domains-twin L) (done-twin L ∙ ap (doneOf (twin b ts)) (domains-twin L))
 
   outcome-twin : (L : List Entry) (o : List ℕ) → outcome b L o ≡ outcome (twin b ts) L o
   unfolding outcome refusal outside

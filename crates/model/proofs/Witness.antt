@@ -97,6 +97,11 @@ booksWellFormed =
       h8 = book-well-formed H8 refl;
       h9 = book-well-formed H9 refl;
       ha = book-well-formed HA refl;
+      four = book-well-formed _ refl;
+      three = book-well-formed _ refl;
+      five = book-well-formed _ refl;
+      with-any = book-well-formed _ refl;
+      few-any = book-well-formed _ refl;
     }
 
 -- HA and its written-out twin

@@ -1,5 +1,5 @@
 -- The examples of document 01 that the customer accepts by: harbour book H, the ten facts K1 to K10, the run of seven lines; and beside
--- them what the search finds, refusals, bytes, valid rows, and what demand 3 leaves free. Each record is proved in proofs/Acceptance.antt under
+-- them what the search finds, refusals, bytes, valid rows, done sheets, and what demand 3 leaves free. Each record is proved in proofs/Acceptance.antt under
 -- its name with a small letter; `BooksWellFormed`, `RowFacts` and `AnyBoard` in proofs/Witness.antt.
 use mathlib.Core.Path.{_≡_}
 use mathlib.Core.Option.{none, some}
@@ -206,6 +206,43 @@ pub record WrittenOutFacts : Type 0 where
 pub record AnyBoard : Type 0 where
   pub same : SameAnswers HA H
 
+-- ---- done
+-- two columns, the first of n values, the second of 2, and a sheet of these rows
+abbrev pub pairs : ℕ → List (List ℕ) → Book
+pairs n rs = record { counts = n ∷ 2 ∷ []; sheets = sheetOf (0 ∷ 1 ∷ []) rs ∷ [] }
+
+-- "all four of 2 motors by 2 boards", and without the last
+abbrev pub fourRows : List (List ℕ)
+fourRows = (0 ∷ 0 ∷ []) ∷ (0 ∷ 1 ∷ []) ∷ (1 ∷ 0 ∷ []) ∷ (1 ∷ 1 ∷ []) ∷ []
+
+abbrev pub threeRows : List (List ℕ)
+threeRows = (0 ∷ 0 ∷ []) ∷ (0 ∷ 1 ∷ []) ∷ (1 ∷ 0 ∷ []) ∷ []
+
+-- a third motor, with board 0 alone; motor 0 with any board, and motor 1 with each, or with one
+abbrev pub fiveRows : List (List ℕ)
+fiveRows = (2 ∷ 0 ∷ []) ∷ fourRows
+
+abbrev pub anyRows : List (List ℕ)
+anyRows = (0 ∷ 255 ∷ []) ∷ (1 ∷ 0 ∷ []) ∷ (1 ∷ 1 ∷ []) ∷ []
+
+abbrev pub fewAnyRows : List (List ℕ)
+fewAnyRows = (0 ∷ 255 ∷ []) ∷ (1 ∷ 0 ∷ []) ∷ []
+
+pub record DoneFacts : Type 0 where
+  -- "A sheet that permits all four of 2 motors by 2 boards is over for the buyer too, though two columns are open."
+  pub all-four : lastAnswer (pairs 2 fourRows) [] ≡ line 0 1 0 1 0 (3 ∷ 3 ∷ [])
+  -- one choice is missing, that of the highest values; and so it is where a row stands twice
+  pub one-missing : lastAnswer (pairs 2 threeRows) [] ≡ line 0 1 0 0 0 (3 ∷ 3 ∷ [])
+  pub row-twice : lastAnswer (pairs 2 ((1 ∷ 0 ∷ []) ∷ threeRows)) [] ≡ line 0 1 0 0 0 (3 ∷ 3 ∷ [])
+  -- a choice goes by the current domains: without motor 2 every one is allowed
+  pub five : lastAnswer (pairs 3 fiveRows) [] ≡ line 0 1 0 0 0 (7 ∷ 3 ∷ [])
+  pub five-narrowed : lastAnswer (pairs 3 fiveRows) (narrow 0 3 ∷ []) ≡ line 0 1 0 1 0 (3 ∷ 3 ∷ [])
+  -- several rows together allow every choice, one with 255 among them
+  pub any-and-plain : lastAnswer (pairs 2 anyRows) [] ≡ line 0 1 0 1 0 (3 ∷ 3 ∷ [])
+  pub any-and-one : lastAnswer (pairs 2 fewAnyRows) [] ≡ line 0 1 0 0 0 (3 ∷ 3 ∷ [])
+  -- "the session isn't dead"
+  pub failed : lastAnswer (pairs 2 fourRows) (narrow 1 0 ∷ []) ≡ line 0 0 0 0 0 (0 ∷ 0 ∷ [])
+
 -- ---- the books of this page are well-formed
 pub record BooksWellFormed : Type 0 where
   pub h : WellFormed H
@@ -215,6 +252,11 @@ pub record BooksWellFormed : Type 0 where
   pub h8 : WellFormed H8
   pub h9 : WellFormed H9
   pub ha : WellFormed HA
+  pub four : WellFormed (pairs 2 fourRows)
+  pub three : WellFormed (pairs 2 ((1 ∷ 0 ∷ []) ∷ threeRows))
+  pub five : WellFormed (pairs 3 fiveRows)
+  pub with-any : WellFormed (pairs 2 anyRows)
+  pub few-any : WellFormed (pairs 2 fewAnyRows)
 
 -- "Depth and byte 0 may differ between the lists": a mark, or an order of an unknown kind, after the opening
 abbrev pub unknown : List ℕ

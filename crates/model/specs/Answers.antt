@@ -1,15 +1,17 @@
 -- Status, done byte and answers, as values and as bytes; all answers of a list, and the number of accepted orders.
-use mathlib.Core.Bool.{Bool, cond}
+use mathlib.Core.Path.{_≡_}
+use mathlib.Core.Bool.{Bool, cond, true}
 use mathlib.Core.Option.{Option, none, some}
 use mathlib.Core.List.{List, [], _∷_, _++_, map}
 use Prim.Native.Nat.{ℕ, zero, suc, _+_, _*_, _^_}
-use lib.Dec.{eqb, ltb, leb}
+use lib.Dec.{eqb}
 use lib.ListN.{length, getD, take, drop}
 use Rattle.fields.specs.Bytes.{wordAt, wordBytes}
-use Rattle.model.specs.Tests.{allBelow, oneIf, count, tab}
+use Rattle.model.specs.Tests.{allBelow, oneIf, tab}
 use Rattle.model.specs.Masks.{maskOf, size}
 use Rattle.model.specs.Stores.{allFilled}
-use Rattle.model.specs.Books.{Sheet, Book, columnCount, sheetAt}
+use Rattle.model.specs.Choices.{pick, Takes, everyChoice}
+use Rattle.model.specs.Books.{Sheet, Book, columnCount, sheetAt, allows}
 use Rattle.model.specs.Solutions.{firstSolution}
 use Rattle.model.specs.Orders.{byKind, kind, Entry, depth, refusal, isAccepted, push, domains}
 
@@ -22,12 +24,15 @@ assigned b D = allBelow (columnCount b) (λ c. eqb (size (getD D c 0)) 1)
 unfoldable pub statusOf : Book → List ℕ → ℕ
 statusOf b D = cond (allFilled (columnCount b) D) (cond (assigned b D) 2 1) 0
 
--- a sheet is subsumed when "at most one column of s holds more than one value". Document 01's done asks besides that "the session isn't
--- dead": see `doneOf`
-unfoldable pub subsumed : List ℕ → Sheet → Bool
-subsumed D s = leb (count (length (s .columns)) (λ i. ltb 1 (size (getD D (getD (s .columns) i 0) 0)))) 1
+-- a sheet is subsumed when "every choice of one value from the current domain of each column of the sheet is allowed by it"
+pub record Subsumed (D : List ℕ) (s : Sheet) : Type 0 where
+  pub each : (t : List ℕ) → Takes (pick D (s .columns)) t → allows s t ≡ true
 
--- "The done byte has bit s for sheet s", and no bit where the session is dead
+-- the same as a computation: `subsumed-iff` of proofs/Subsumptions.antt
+unfoldable pub subsumed : List ℕ → Sheet → Bool
+subsumed D s = everyChoice (pick D (s .columns)) (allows s)
+
+-- "The done byte has bit s for sheet s". "Done now holds exactly when the session isn't dead and every choice … is allowed": `DoneExactly` (Demands)
 unfoldable pub doneOf : Book → List ℕ → ℕ
 doneOf b D = cond (allFilled (columnCount b) D) (maskOf (length (b .sheets)) (λ s. subsumed D (sheetAt b s))) 0
 

@@ -1,6 +1,6 @@
 -- Choices of one value from each domain of a store: the order between them, and the first that passes a test.
 use mathlib.Core.Path.{_≡_}
-use mathlib.Core.Bool.{Bool, true, false, cond}
+use mathlib.Core.Bool.{Bool, true, false, cond, not}
 use mathlib.Core.Logic.{_⊎_}
 use mathlib.Core.Option.{Option, none, some}
 use mathlib.Core.List.{List, [], _∷_, map}
@@ -51,3 +51,7 @@ firstChoice (m ∷ B) p = firstOf 32 (λ v. elim (bit v m) [ true ↦ lead v (fi
 unfoldable pub anyChoice : List ℕ → (List ℕ → Bool) → Bool
 anyChoice [] p = p []
 anyChoice (m ∷ B) p = anyBelow 32 (λ v. elim (bit v m) [ true ↦ anyChoice B (λ x. p (v ∷ x)) | false ↦ false ])
+
+-- every choice passes: there is none that does not
+abbrev pub everyChoice : List ℕ → (List ℕ → Bool) → Bool
+everyChoice B p = not (anyChoice B (λ x. not (p x)))

@@ -8,14 +8,16 @@ use mathlib.Core.Option.{none, some}
 use mathlib.Core.List.{List, [], _∷_, map}
 use Prim.Native.Nat.{ℕ, _+_, _^_, _≤_, _<_}
 use lib.Dec.{eqb}
+use lib.ListN.{length}
 use Rattle.fields.specs.Bytes.{byteAt}
 use Rattle.model.specs.Tests.{oneIf, tab}
 use Rattle.model.specs.Stores.{has, emptyStore}
-use Rattle.model.specs.Books.{Book, columnCount, WellFormed, Stays, Fails}
+use Rattle.model.specs.Masks.{bit}
+use Rattle.model.specs.Books.{Book, columnCount, sheetAt, WellFormed, Stays, Fails}
 use Rattle.model.specs.Solutions.{Solution, FirstSolution, NoSolution, firstSolution}
 use Rattle.model.specs.Search.{searchSolution}
 use Rattle.model.specs.Orders.{kind, argument, mask, zeroPlaces, someWrong, Entry, narrowed, checkpoint, refusal, AcceptedFinish, push, allowed, domains}
-use Rattle.model.specs.Answers.{statusOf, Answer, stateOnly, showing, answer, opening, answersFrom, acceptedCount, answerBytes}
+use Rattle.model.specs.Answers.{statusOf, Subsumed, Answer, stateOnly, showing, answer, opening, answersFrom, acceptedCount, answerBytes}
 
 -- ---- demand 1: orders over the book b
 -- "a refused order changes no domain or mark", for the whole trail stays; and "A refused order shows the unchanged state"
@@ -85,6 +87,14 @@ pub record EveryAnswer (b : Book) : Type 0 where
   pub finished : (L : List Entry) (o : List ℕ) → AcceptedFinish b L o → ShowsFinish b L (answer b L o)
   -- "mask 0 is accepted and makes the session dead"; that it is accepted: `Demand1 .mask-0`
   pub mask-0 : (L : List Entry) (o : List ℕ) → kind o ≡ 1 → refusal b L o ≡ 0 → mask o ≡ 0 → Fails b (allowed b (push b L o))
+
+-- ---- done
+-- in the current domains D, with this status and done byte. Request W3: "Done now holds exactly when the session isn't dead and every choice of one
+-- value from the current domain of each column of the sheet is allowed by it."
+pub record DoneExactly (b : Book) (D : List ℕ) (status done : ℕ) : Type 0 where
+  pub of-sheet : (s : ℕ) → s < length (b .sheets) → (bit s done ≡ true) ↔ ((status ≡ 0 → ⊥) × Subsumed D (sheetAt b s))
+  -- no other bit is set
+  pub past : (s : ℕ) → length (b .sheets) ≤ s → bit s done ≡ false
 
 -- ---- demand 3: two lists compared by what their trails allow
 -- "the same allowed values in every column"

@@ -20,7 +20,7 @@ use Rattle.model.specs.Stores.{has}
 use Rattle.model.specs.Tests.{count, oneIf, sum, tab}
 use Rattle.model.proofs.Choices.{opt}
 use Rattle.model.proofs.Answers.{Tells, answer-tells, bytes-0, bytes-1, bytes-2, bytes-3, bytes-4, bytes-zero, domain-back, map-out, showing-tells, shown-small}
-use Rattle.model.proofs.Demands.{claim1, claim2}
+use Rattle.model.proofs.Demands.{claim1, claim2, doneExactly}
 use Rattle.model.proofs.Refusals.{push-finish, push-refused}
 use Rattle.model.proofs.Search.{getD-map}
 use Rattle.model.proofs.Solutions.{found-iff, none-iff}
@@ -47,6 +47,7 @@ module _ (B : Book) (p : WellFormed B) (L : List Entry) (a : Answer) where
         status = q;
         deep = bytes-2 a ∙ t .depth;
         done = bytes-4 a ∙ t .done;
+        done-exactly = rw (q, bytes-4 a ∙ t .done) (doneExactly B L);
         zero-bytes = bytes-zero a;
         failed = (λ y. w .0 (sym q ∙ y), λ x. q ∙ w .1 x);
       }

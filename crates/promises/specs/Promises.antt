@@ -12,7 +12,7 @@ use Rattle.fields.specs.Bytes.{byteAt}
 use Rattle.model.specs.Answers.{answerAt, doneOf, domainIn, statusOf}
 use Rattle.model.specs.Books.{Book, Fails, Stays, columnCount}
 use Rattle.model.specs.Choices.{Lower}
-use Rattle.model.specs.Demands.{SameAllowed, SameFinish}
+use Rattle.model.specs.Demands.{DoneExactly, SameAllowed, SameFinish}
 use Rattle.model.specs.Masks.{bit}
 use Rattle.model.specs.Orders.{Entry, allowed, depth, domains, kind, refusal, trail}
 use Rattle.model.specs.Search.{valueOf}
@@ -40,6 +40,8 @@ pub record AnswerTells (B : Book) (L : List Entry) (a : List ℕ) : Type 0 where
   pub status : byteAt a 1 ≡ statusOf B (domains B L)
   pub deep : byteAt a 2 ≡ depth L
   pub done : byteAt a 4 ≡ doneOf B (domains B L)
+  -- request W3: "Done now holds exactly when the session isn't dead and every choice … is allowed"
+  pub done-exactly : DoneExactly B (domains B L) (byteAt a 1) (byteAt a 4)
   -- "bytes 5 to 7 zero"
   pub zero-bytes : (j : ℕ) → 5 ≤ j → j ≤ 7 → byteAt a j ≡ 0
   -- demand 2: "dead exactly when there is no sound box"

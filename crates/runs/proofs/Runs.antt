@@ -21,6 +21,8 @@ use Rattle.sessions.specs.Holds.{Holds, Refuses, Stepped}
 use Rattle.sessions.specs.Lists.{orderAt, ordersOf, ordersTo}
 use Rattle.sessions.specs.declared.session.Session.{Session}
 use Rattle.sessions.proofs.Lists.{orders-more, tab-last}
+use Rattle.status.specs.Status.{SummaryIs}
+use Rattle.status.specs.declared.Summary.{Summary}
 use Rattle.shown.specs.Shows.{AnswersAt}
 use Rattle.runs.specs.Runs.{Led, RanTo}
 use Rattle.answers.specs.Spaces.{Adds, written}
@@ -133,24 +135,32 @@ module _ (b o old : List ℕ) where
   -- one order more
   module _ {n k : ℕ} {s : Session} {space x : List ℕ} (e : x ≡ orderAt o n) (room : 72 * (n + 1) + 72 ≤ length old) (h : RanTo b o old n s k space)
       {r : ℕ} (f : Refuses b s x r) where
-    pub more : {t : Session} {j : ℕ} {space′ : List ℕ} → Stepped b s x t → j ≡ k + oneIf (eqb r 0) → AnswersAt b x r (t .now) (t .depth) (n + 1) space space′
-        → RanTo b o old (n + 1) t j space′
-    more {t} {j} {space′} g c w = record {
-      led = led-more n t (h .led) (rw e at g);
-      holds = rw (orders-more o n, trail-snoc bk [] (ordersTo o n) (orderAt o n), ← e) (g .holds _ (h .holds));
-      counts =
-          c
-          ∙ ap (λ (i : ℕ). k + oneIf (eqb i 0)) (rw e at (f (T n) (h .holds)))
-          ∙ ap (λ (i : ℕ). i + oneIf (isAccepted bk (T n) (orderAt o n))) (h .counts)
-          ∙ sym (accepted-snoc bk [] (ordersTo o n) (orderAt o n))
-          ∙ ap (acceptedCount bk) (sym (orders-more o n));
-      wrote =
-          subst (λ (l : List Answer). space′ ≡ written l old) (sym (answers-more bk o n))
-          ((rw e at (w (T n) (f (T n) (h .holds)) (after .current) (after .deep))) (answers bk (ordersTo o n)) old (length-answers bk o n) room (h .wrote));
-    }
-      where
-        after : Holds b (push bk (T n) x) t
-        after = g .holds (T n) (h .holds)
+    -- what the session says, before the order and after it
+    module _ {t : Session} (g : Stepped b s x t) {told told′ : Summary} (said : SummaryIs b (T n) told) {space′ : List ℕ}
+        (w : AnswersAt b x r (t .now) (t .depth) told (n + 1) space told′ space′) where
+      after : Holds b (push bk (T n) x) t
+      after = g .holds (T n) (h .holds)
+
+      answered : SummaryIs b (push bk (T n) x) told′ × Adds (n + 1) (answer bk (T n) x) space space′
+      answered = w (T n) (f (T n) (h .holds)) said (after .current) (after .deep)
+
+      pub says-more : SummaryIs b (T (n + 1)) told′
+      says-more = rw (orders-more o n, trail-snoc bk [] (ordersTo o n) (orderAt o n), ← e) (answered .0)
+
+      pub more : {j : ℕ} → j ≡ k + oneIf (eqb r 0) → RanTo b o old (n + 1) t j space′
+      more {j} c = record {
+        led = led-more n t (h .led) (rw e at g);
+        holds = rw (orders-more o n, trail-snoc bk [] (ordersTo o n) (orderAt o n), ← e) (g .holds _ (h .holds));
+        counts =
+            c
+            ∙ ap (λ (i : ℕ). k + oneIf (eqb i 0)) (rw e at (f (T n) (h .holds)))
+            ∙ ap (λ (i : ℕ). i + oneIf (isAccepted bk (T n) (orderAt o n))) (h .counts)
+            ∙ sym (accepted-snoc bk [] (ordersTo o n) (orderAt o n))
+            ∙ ap (acceptedCount bk) (sym (orders-more o n));
+        wrote =
+            subst (λ (l : List Answer). space′ ≡ written l old) (sym (answers-more bk o n))
+            ((rw e at (answered .1)) (answers bk (ordersTo o n)) old (length-answers bk o n) room (h .wrote));
+      }
 
   -- ---- whole lists
   -- the space after the opening stands for the one before it

@@ -31,7 +31,9 @@ pub fn run_orders(book: &[u8], orders: &[u8], answers: &mut [u8]) -> Ran
     let mut scopes = [0u32; 8];
     let mut shorts = [0u32; 8];
     lay_out(book, &mut begins, &mut scopes, &mut shorts);
-    let mut s = opened(answers, book, &begins, &scopes, &shorts);
+    let mut s = open(book, &begins, &scopes, &shorts);
+    let first = s.now;
+    let mut told = show_opening(answers, book, &begins, &shorts, first);
     let mut accepted: u64 = 0;
     let mut i: usize = 0;
     while i < orders.len() / 8 {
@@ -53,7 +55,19 @@ pub fn run_orders(book: &[u8], orders: &[u8], answers: &mut [u8]) -> Ran
         }
         let d = s.depth;
         let st = s.now;
-        show_order(answers, i, book, &begins, &scopes, &shorts, order, r, d, st);
+        told = show_order(
+            answers,
+            i,
+            book,
+            &begins,
+            &scopes,
+            &shorts,
+            order,
+            r,
+            d,
+            told,
+            st,
+        );
     }
     Ran {
         accepted: accepted,

@@ -22,7 +22,7 @@ use Rattle.model.specs.Tests.{FirstIn, tab}
 use Rattle.model.proofs.Masks.{bit-and, bit-pow, bit-pow-only, mask-ext, size-zero, bit-of-zero, lowest-under}
 use Rattle.model.proofs.Search.{after-closed, after-fewer, after-store, closed-consistent, many-column, searched-empty, single-column, assigned-masks, searched-found, searched-none, searched-single}
 use Rattle.model.proofs.Stores.{empty-has, filled-i, in-store}
-use Rattle.model.proofs.Tests.{and-i, and-r, below, same-test, either, getD-tab, getD-tab-out, length-tab}
+use Rattle.model.proofs.Tests.{and-i, and-r, below, same-test, either, getD-tab, getD-tab-out, length-tab, zeros-at}
 use Rattle.model.proofs.Trails.{domains-closed, domains-store, allowed-store}
 use Rattle.model.proofs.Choices.{opt}
 use Rattle.model.proofs.Books.{closed-or-empty}
@@ -39,7 +39,6 @@ use Rattle.engine.specs.States.{SomeState}
 use Rattle.engine.specs.declared.state.State.{State}
 use Rattle.engine.proofs.States.{met-closure, met-store, narrow-ready}
 use Rattle.engine.proofs.Propagation.{columns-count, store-in, store-is, no-value}
-use Rattle.engine.proofs.Worklists.{zeros-at}
 use Rattle.search.specs.Searches.{FilledState, FoundIs, OpenValue, searchAfter, searchIn, isFound, solutionMasks, Finishes}
 use Rattle.search.specs.declared.Found.{Found}
 

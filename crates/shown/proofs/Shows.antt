@@ -1,9 +1,11 @@
 -- Laws of what an answer shows. Assumes nothing.
 use mathlib.Core.Path.{_∙_, _≡_, ap, refl, subst, sym}
 use mathlib.Core.Bool.{false, false≢true, true}
+use mathlib.Core.Logic.{_⊎_, inl, inr}
 use mathlib.Core.Option.{Option, none, some}
 use mathlib.Core.List.{List, []}
 use Prim.Native.Nat.{_*_, _<_, ℕ}
+use native.Mathlib.Omega.{arith}
 use lib.ListN.{getD}
 use Rattle.fields.specs.Bytes.{over}
 use Rattle.model.specs.Answers.{answer, answerBytes, finishOutcome, opening, outcome, outcomeMasks, outcomeNumber, showing, stateOnly}
@@ -12,26 +14,24 @@ use Rattle.model.specs.Orders.{Entry, depth, domains, kind, push}
 use Rattle.model.specs.Search.{searchSolution}
 use Rattle.model.specs.Solutions.{firstSolution}
 use Rattle.model.proofs.Answers.{domainBytes-same, outcome-finish, outcome-other}
-use Rattle.model.proofs.Refusals.{push-finish}
+use Rattle.model.proofs.Refusals.{push-finish, push-ind, push-refused}
 use Rattle.model.proofs.Search.{search-first}
 use Rattle.model.proofs.Tests.{getD-tab}
-use Rattle.model.proofs.Trails.{domains-closed, domains-store}
+use Rattle.model.proofs.Trails.{domains-checkpoint, domains-closed, domains-store}
 use Rattle.book.specs.Decoding.{bookOf}
 use Rattle.heads.specs.Heads.{columnsOf}
 use Rattle.book.specs.Verdicts.{Accepted}
 use Rattle.book.proofs.Decoding.{accepted-right, right-formed}
-use Rattle.sessions.specs.Holds.{Holds}
 use Rattle.engine.specs.States.{StateIs}
-use Rattle.sessions.specs.declared.session.Session.{Session}
 use Rattle.engine.specs.declared.state.State.{State}
 use Rattle.engine.proofs.Propagation.{columns-count}
 use Rattle.search.specs.Searches.{Finishes, isFound, solutionMasks}
 use Rattle.search.specs.declared.Found.{Found}
-use Rattle.status.specs.Status.{Summarises}
+use Rattle.status.specs.Status.{Summarises, SummaryIs}
 use Rattle.status.specs.declared.Summary.{Summary}
 use Rattle.answers.specs.Answers.{answerIn}
 use Rattle.answers.specs.declared.Answer.{Answer as Written}
-use Rattle.shown.specs.Shows.{AnswersAt, OutcomeIs, ShowsAt, ShowsBesides, ShowsFound}
+use Rattle.shown.specs.Shows.{AnswersAt, OpensWith, OutcomeIs, ShowsAt, ShowsBesides, ShowsFound, TellsAfter}
 use Rattle.answers.specs.Spaces.{Adds}
 use Rattle.shown.specs.declared.Outcome.{Outcome as Held}
 use Rattle.answers.proofs.Spaces.{adds}
@@ -89,14 +89,34 @@ module _ {b : List ℕ} {st : State} where
         let p = push-finish (bookOf b) L x k in
         rw (p, outcome-finish (bookOf b) L x (record { of-kind = k; accepted = sym e ∙ z })) (g L (rw p at h))
 
+-- ---- what the state says
+-- the same domains, the same summary
+summary-like : {b : List ℕ} {L M : List Entry} {t : Summary} → domains (bookOf b) L ≡ domains (bookOf b) M → SummaryIs b L t → SummaryIs b M t
+summary-like e h = record { status = rw (← e) (h .status); done = rw (← e) (h .done) }
+
+module _ {b : List ℕ} (x : List ℕ) {r : ℕ} {t : Summary} {st : State} where
+  pub told-refused : (r ≡ 0 → ⊥) → TellsAfter b x r t st t
+  told-refused n L e h s = rw (push-refused (bookOf b) L x (λ z. n (e ∙ z))) h
+
+  -- a mark and a finish change no domain
+  pub told-same : (kind x ≡ 2) ⊎ (kind x ≡ 4) → TellsAfter b x r t st t
+  told-same k L e h s =
+      push-ind (bookOf b) L x (λ M. SummaryIs b M t) h (λ q z. absurd (other k q (inl refl))) (λ q z. summary-like (sym (domains-checkpoint (bookOf b) L)) h)
+      (λ q z. absurd (other k q (inr refl)))
+    where
+      other : (kind x ≡ 2) ⊎ (kind x ≡ 4) → {n : ℕ} → kind x ≡ n → (n ≡ 1) ⊎ (n ≡ 3) → ⊥
+      other (inl p) q (inl u) = omega arith
+      other (inl p) q (inr u) = omega arith
+      other (inr p) q (inl u) = omega arith
+      other (inr p) q (inr u) = omega arith
+
 -- ---- one answer
 -- the answer that the code holds has the bytes of the model's
-pub shows-at : {b : List ℕ} {st : State} {d r : ℕ} {f : Held} (i : ℕ) (space : List ℕ) {s : Summary} {a : Written} {space′ : List ℕ}
-    → Summarises b st s
-    → answerIn a ≡ record { refused = r; status = s .status; depth = d; outcome = f .number; done = s .done; shown = f .masks }
-    → space′ ≡ over space (72 * i) (answerBytes (answerIn a)) → ShowsAt b st d r f i space space′
+pub shows-at : {d r : ℕ} {t : Summary} {f : Held} (i : ℕ) (space : List ℕ) {a : Written} {space′ : List ℕ}
+    → answerIn a ≡ record { refused = r; status = t .status; depth = d; outcome = f .number; done = t .done; shown = f .masks }
+    → space′ ≡ over space (72 * i) (answerBytes (answerIn a)) → ShowsAt t d r f i space space′
 unfolding showing answerBytes
-shows-at {b} {st} {d} {r} {f} i space {s} {a} {space′} g q e L x h dd k =
+shows-at {d} {r} {t} {f} i space {a} {space′} q e b L x h dd k =
     rw e
     (subst (λ (l : List ℕ). Adds i (showing (bookOf b) L r x) space (over space (72 * i) l)) (sym same)
     (adds i (showing (bookOf b) L r x) space))
@@ -104,14 +124,15 @@ shows-at {b} {st} {d} {r} {f} i space {s} {a} {space′} g q e L x h dd k =
     same : answerBytes (answerIn a) ≡ answerBytes (showing (bookOf b) L r x)
     same =
         ap answerBytes q
-        ∙ rw (g L h .status, g L h .done, dd, k .number, domainBytes-same (f .masks) (outcomeMasks (columnCount (bookOf b)) (domains (bookOf b) L) x) 16 (k .masks)) refl
+        ∙ rw (h .status, h .done, dd, k .number, domainBytes-same (f .masks) (outcomeMasks (columnCount (bookOf b)) (domains (bookOf b) L) x) 16 (k .masks)) refl
 
-pub answers-order : {b : List ℕ} {st : State} {d r : ℕ} {f : Held} (x : List ℕ) (i : ℕ) (space : List ℕ) {space′ : List ℕ}
-    → ShowsBesides b x r st f → ShowsAt b st d r f i space space′ → AnswersAt b x r st d i space space′
+pub answers-order : {b : List ℕ} {st : State} {d r : ℕ} {t t′ : Summary} {f : Held} (x : List ℕ) (i : ℕ) (space : List ℕ) {space′ : List ℕ}
+    → ShowsBesides b x r st f → TellsAfter b x r t st t′ → ShowsAt t′ d r f i space space′ → AnswersAt b x r st d t i space t′ space′
 unfolding answer
-answers-order {b} {st} {d} {r} {f} x i space g w L e h q = rw e at (w (push (bookOf b) L x) (outcome (bookOf b) L x) h q (g L e h))
+answers-order {b} {st} {d} {r} {t} {t′} {f} x i space g s w L e h k q =
+    let after = s L e h k in (after, rw e at (w b (push (bookOf b) L x) (outcome (bookOf b) L x) after q (g L e k)))
 
-pub opened-at : {b : List ℕ} {s : Session} {f : Held} (space : List ℕ) {space′ : List ℕ} → Holds b [] s → f .number ≡ 0 → f .masks ≡ s .now .dom
-    → ShowsAt b (s .now) 0 0 f 0 space space′ → Adds 0 (opening (bookOf b)) space space′
+pub opens-with : {b : List ℕ} {st : State} {t : Summary} {f : Held} (space : List ℕ) {space′ : List ℕ} → Summarises b st t → f .number ≡ 0
+    → f .masks ≡ st .dom → ShowsAt t 0 0 f 0 space space′ → OpensWith b st space t space′
 unfolding depth
-opened-at space h n m w = w [] stateOnly (h .current) refl (state-is n m (h .current))
+opens-with {b} space s n m w h = let told = s [] h in (told, w b [] stateOnly told refl (state-is n m h))

@@ -1,23 +1,17 @@
 // shown: what each answer shows of a session, of an order's refusal and of a finish, each answer in its own part of the answer space.
 //
-// Promise: `opened` gives the session of the empty trail and writes answer 0; `show_order` writes the answer to an order (`AnswersAt`, specs/Shows.antt),
-// whatever trail stood before it.
+// Promise: `show_opening` writes answer 0 (`OpensWith`, specs/Shows.antt); `show_order` writes the answer to an order (`AnswersAt`), whatever trail stood
+// before it.
 use answers::*;
 use engine::state::*;
-use sessions::session::*;
 use status::*;
 ghost use mathlib.Core.Path.{_≡_};
-ghost use mathlib.Core.List.{[]};
 ghost use Prim.Native.Nat.{_+_, _*_, _<_, _≤_};
 ghost use lib.ListN.{length};
-ghost use Rattle.model.specs.Answers.{opening};
-ghost use Rattle.book.specs.Decoding.{bookOf};
 ghost use Rattle.engine.specs.Layouts.{LayoutOf};
 ghost use Rattle.engine.specs.States.{SomeState};
-ghost use Rattle.sessions.specs.Holds.{Holds};
-ghost use Rattle.status.specs.Status.{SheetMasks};
-ghost use Rattle.answers.specs.Spaces.{Adds};
-ghost use Rattle.shown.specs.Shows.{AnswersAt, ShowsAt, ShowsBesides, ShowsFound};
+ghost use Rattle.status.specs.Status.{SheetsLaid};
+ghost use Rattle.shown.specs.Shows.{AnswersAt, OpensWith, ShowsAt, ShowsBesides, ShowsFound, TellsAfter};
 
 // What an answer shows besides the state: byte 3, and the masks in the domains' place.
 pub struct Outcome {
@@ -83,37 +77,62 @@ fn outcome_of(
     state_only(st)
 }
 
-// Answer i shows the state at this depth, with the refusal of the order or 0, and what is shown besides.
-fn show(
-    answers: &mut [u8],
-    i: usize,
+// What the state says that an order leaves, where `told` is what it said before: the same, unless the order is an accepted narrow or back.
+fn told_after(
     book: &[u8],
-    scopes: &[u32; 8],
+    begins: &[usize; 8],
+    shorts: &[u32; 8],
+    order: &[u8],
     refused: u32,
-    depth: usize,
+    told: Summary,
     st: State,
-    f: Outcome,
-)
-    requires { ⌜ SheetMasks (now book) (now scopes) × SomeState (now book) st × (i ≤ 256) × (72 * i + 72 ≤ length (now answers)) × (refused < 256) × (depth < 256) ⌝ }
-    ensures { λ r. ⌜ ShowsAt (now (book .entry)) st depth refused f i (now (answers .entry)) (now (answers .exit)) ⌝ }
+) -> Summary
+    requires { ⌜ SheetsLaid (now book) (now begins) (now shorts) × SomeState (now book) st × (length (now order) ≡ 8) ⌝ }
+    ensures { λ r. ⌜ TellsAfter (now (book .entry)) (now (order .entry)) refused told st r ⌝ }
 {
-    let s = summarise(book, scopes, st);
+    if 0 < refused {
+        return told;
+    }
+    let kind = order[0];
+    if kind == 2 {
+        return told;
+    }
+    if kind == 4 {
+        return told;
+    }
+    summarise(
+        book,
+        begins,
+        shorts,
+        &st.dom,
+        &st.valid,
+        &st.index,
+        &st.nonzero,
+    )
+}
+
+// Answer i shows what the state says, at this depth, with the refusal of the order or 0, and what is shown besides.
+fn show(answers: &mut [u8], i: usize, refused: u32, depth: usize, told: Summary, f: Outcome)
+    requires { ⌜ (i ≤ 256) × (72 * i + 72 ≤ length (now answers)) × (refused < 256) × (depth < 256) ⌝ }
+    ensures { λ r. ⌜ ShowsAt told depth refused f i (now (answers .entry)) (now (answers .exit)) ⌝ }
+{
     let shown = f.masks;
     write(
         answers,
         i,
         Answer {
             refused: refused as u8,
-            status: s.status,
+            status: told.status,
             depth: depth as u8,
             outcome: f.number,
-            done: s.done,
+            done: told.done,
             shown: shown,
         },
     );
 }
 
-// Answer i, to an order with this refusal or 0, when the session given back has this depth and state.
+// Answer i, to an order with this refusal or 0, when the session given back has this depth and state, and the one before it said what was `told`. What it
+// says now.
 pub fn show_order(
     answers: &mut [u8],
     i: usize,
@@ -124,28 +143,38 @@ pub fn show_order(
     order: &[u8],
     refused: u32,
     depth: usize,
+    told: Summary,
     st: State,
-)
+) -> Summary
     requires { ⌜ LayoutOf (now book) (now begins) (now scopes) (now shorts) × SomeState (now book) st × (i ≤ 256) × (72 * i + 72 ≤ length (now answers)) × (refused < 256) × (depth < 256) × (length (now order) ≡ 8) ⌝ }
-    ensures { λ r. ⌜ AnswersAt (now (book .entry)) (now (order .entry)) refused st depth i (now (answers .entry)) (now (answers .exit)) ⌝ }
+    ensures { λ r. ⌜ AnswersAt (now (book .entry)) (now (order .entry)) refused st depth told i (now (answers .entry)) r (now (answers .exit)) ⌝ }
 {
     let f = outcome_of(book, begins, scopes, shorts, order, refused, st);
-    show(answers, i, book, scopes, refused, depth, st, f);
+    let t = told_after(book, begins, shorts, order, refused, told, st);
+    show(answers, i, refused, depth, t, f);
+    t
 }
 
-// The session of the empty trail, and answer 0.
-pub fn opened(
+// Answer 0, of the state of the empty trail. What it says.
+pub fn show_opening(
     answers: &mut [u8],
     book: &[u8],
     begins: &[usize; 8],
-    scopes: &[u32; 8],
     shorts: &[u32; 8],
-) -> Session
-    requires { ⌜ LayoutOf (now book) (now begins) (now scopes) (now shorts) × (72 ≤ length (now answers)) ⌝ }
-    ensures { λ r. ⌜ Holds (now (book .entry)) [] r × Adds 0 (opening (bookOf (now (book .entry)))) (now (answers .entry)) (now (answers .exit)) ⌝ }
+    st: State,
+) -> Summary
+    requires { ⌜ SheetsLaid (now book) (now begins) (now shorts) × SomeState (now book) st × (72 ≤ length (now answers)) ⌝ }
+    ensures { λ r. ⌜ OpensWith (now (book .entry)) st (now (answers .entry)) r (now (answers .exit)) ⌝ }
 {
-    let s = open(book, begins, scopes, shorts);
-    let st = s.now;
-    show(answers, 0, book, scopes, 0, 0, st, state_only(st));
-    s
+    let t = summarise(
+        book,
+        begins,
+        shorts,
+        &st.dom,
+        &st.valid,
+        &st.index,
+        &st.nonzero,
+    );
+    show(answers, 0, 0, 0, t, state_only(st));
+    t
 }

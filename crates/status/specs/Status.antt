@@ -1,54 +1,55 @@
--- What a state says of itself, status and done byte: what must be known of its domains and of the sheets, and how both are computed from masks.
+-- What a state says of itself, status and done byte: what must be known of it, and how both are computed.
 use mathlib.Core.Path.{_≡_}
-use mathlib.Core.Bool.{Bool, cond, not}
-use mathlib.Core.Logic.{_⊎_}
+use mathlib.Core.Bool.{Bool, cond}
 use mathlib.Core.List.{List}
-use Prim.Native.Nat.{_<_, _≤_, ℕ}
-use lib.Bits.{bitAnd}
-use lib.Dec.{eqb, ltb}
+use Prim.Native.Nat.{_<_, ℕ}
+use lib.Dec.{ltb}
 use lib.ListN.{getD}
-use Rattle.model.specs.Answers.{doneOf, statusOf}
-use Rattle.model.specs.Masks.{maskOf, size}
+use Rattle.model.specs.Answers.{doneOf, statusOf, subsumed}
+use Rattle.model.specs.Books.{ConsistentStore, sheetAt}
+use Rattle.model.specs.Masks.{maskOf}
 use Rattle.model.specs.Orders.{Entry, domains}
+use Rattle.model.specs.States.{StateOf}
 use Rattle.model.specs.Stores.{IsStore}
+use Rattle.model.specs.Tests.{anyBelow, count}
 use Rattle.book.specs.Decoding.{bookOf}
-use Rattle.heads.specs.Heads.{columnsOf, sheetsOf}
 use Rattle.book.specs.Verdicts.{Accepted}
-use Rattle.engine.specs.Layouts.{ColumnsIn}
-use Rattle.engine.specs.Propagation.{isOpen}
+use Rattle.heads.specs.Heads.{columnOf, sheetsOf}
+use Rattle.words.specs.Sheets.{ShortPlaces, Sized, firstByte}
+use Rattle.engine.specs.Propagation.{storeIn}
 use Rattle.engine.specs.States.{StateIs}
 use Rattle.engine.specs.declared.state.State.{State}
 use Rattle.status.specs.declared.Summary.{Summary}
 
--- D are the domains of a closure: those of the columns, and nothing past the last
-pub record ClosedDomains (b D : List ℕ) : Type 0 where
+-- a state that is not failed: its domains D are consistent, and W are the rows that are valid in them
+pub record OpenState (b D W X N : List ℕ) : Type 0 where
   pub store : IsStore 16 D
-  -- "zero from C on"
-  pub past : (c : ℕ) → columnsOf b ≤ c → getD D c 0 ≡ 0
-  -- "A sound box has no empty column"; "If there is none, every domain is empty and the session is dead."
-  pub filled-or-empty : ((c : ℕ) → c < columnsOf b → 0 < getD D c 0) ⊎ ((c : ℕ) → getD D c 0 ≡ 0)
+  pub sized : Sized W X N
+  pub consistent : ConsistentStore (bookOf b) (storeIn b D)
+  pub state : StateOf (bookOf b) (storeIn b D) D W X N
 
--- M has the columns of each sheet of an accepted book, bit c for column c
-pub record SheetMasks (b M : List ℕ) : Type 0 where
+-- where the rows of each sheet of an accepted book begin, and where it has 255: what is asked here of the book's layout
+pub record SheetsLaid (b begins shorts : List ℕ) : Type 0 where
   pub accepted : Accepted b
-  pub columns : (s : ℕ) → s < sheetsOf b → ColumnsIn b s (getD M s 0)
+  pub starts : (s : ℕ) → s < sheetsOf b → getD begins s 0 ≡ firstByte b s
+  pub any : (s : ℕ) → s < sheetsOf b → ShortPlaces b s (getD shorts s 0)
 
--- ---- from masks
--- the open columns, bit c for column c
-abbrev pub openColumns : List ℕ → ℕ
-openColumns D = maskOf 16 (isOpen D)
+-- ---- from the sizes Z of the domains
+-- column c "holds more than one value"
+abbrev pub isMany : List ℕ → ℕ → Bool
+isMany Z c = ltb 1 (getD Z c 0)
 
--- "0 dead; 2 decided, each column holds one value; 1 open, otherwise", from the domain of column 0 and the open columns
-unfoldable pub statusFrom : ℕ → ℕ → ℕ
-statusFrom lead opens = cond (eqb lead 0) 0 (cond (eqb opens 0) 2 1)
+-- "2 decided, each column holds one value; 1 open, otherwise"
+unfoldable pub openStatus : List ℕ → ℕ
+openStatus Z = cond (anyBelow 16 (isMany Z)) 1 2
 
--- "at most one column of s holds more than one value", from the columns of s and the open columns
-unfoldable pub fewOpen : ℕ → ℕ → Bool
-fewOpen columns opens = not (ltb 1 (size (bitAnd columns opens)))
+-- how many of the first n columns of sheet s are open
+abbrev pub openPlaces : List ℕ → ℕ → List ℕ → ℕ → ℕ
+openPlaces b s Z n = count n (λ j. isMany Z (columnOf b s j))
 
--- "The done byte has bit s for sheet s", of S sheets whose columns are in M, where "the session isn't dead"
-unfoldable pub doneFrom : ℕ → List ℕ → ℕ → ℕ → ℕ
-doneFrom S M lead opens = cond (eqb lead 0) 0 (maskOf S (λ s. fewOpen (getD M s 0) opens))
+-- "The done byte has bit s for sheet s": of the sheets below n those of which "every choice … is allowed"
+unfoldable pub doneSheets : List ℕ → List ℕ → ℕ → ℕ
+doneSheets b D n = maskOf n (λ s. subsumed D (sheetAt (bookOf b) s))
 
 -- ---- the promise
 -- "byte 1 status", "byte 4 done": those of the domains that the trail L leaves

@@ -140,7 +140,7 @@ no-any-start b s W X j = record { at = λ i k l. absurd (omega arith) }
 
 module _ {b : List ℕ} {begin s : ℕ} (a : AtSheet b begin s) {W X N : List ℕ} (h : SheetWords b s W X N) where
   -- a row that is set stands at a position below the count
-  at-position : (r : ℕ) → r < 512 → isSet W s r ≡ true
+  pub at-position : (r : ℕ) → r < 512 → isSet W s r ≡ true
       → (i : ℕ) × (i < getD N s 0) × (ofSheet X s i ≡ r / 64) × (bit (r % 64) (ofSheet W s (ofSheet X s i)) ≡ true)
   unfolding isSet
   at-position r l e =
@@ -154,11 +154,11 @@ module _ {b : List ℕ} {begin s : ℕ} (a : AtSheet b begin s) {W X N : List �
           absurd (false≢true (sym (bit-of-zero (r % 64)) ∙ ap (bit (r % 64)) (sym (past-limit (h .indexed) i n o)) ∙ u))
 
   -- and its cells are cells
-  set-cell : (r j : ℕ) → r < 512 → j < 4 → isSet W s r ≡ true → IsCell (valueAt b s r j)
+  pub set-cell : (r j : ℕ) → r < 512 → j < 4 → isSet W s r ≡ true → IsCell (valueAt b s r j)
   set-cell r j l p e = value-is a r j (h .inside .at r l e) p
 
   -- row k of word w
-  word-row : (w k : ℕ) → w < 8 → bit k (ofSheet W s w) ≡ true → (64 * w + k < 512) × (isSet W s (64 * w + k) ≡ true)
+  pub word-row : (w k : ℕ) → w < 8 → bit k (ofSheet W s w) ≡ true → (64 * w + k < 512) × (isSet W s (64 * w + k) ≡ true)
   word-row w k l e =
       let t = bit-below 64 (ofSheet W s w) k (h .sized .bits (8 * s + w)) e in (omega arith, row-word W s w k t ∙ e)
 

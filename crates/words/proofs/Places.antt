@@ -87,6 +87,10 @@ module _ {b : List ℕ} {begin s : ℕ} (a : AtSheet b begin s) where
   pub value-is : (r j : ℕ) → r < rowsOf b s → j < 4 → IsCell (valueAt b s r j)
   value-is r j l p = rw (a .begins) at (cell-is r j l p)
 
+  -- at a place that is not used it is 0
+  pub unused-value : (r j : ℕ) → r < rowsOf b s → widthOf b s ≤ j → j < 4 → valueAt b s r j ≡ 0
+  unused-value r j l p q = ap (λ (i : ℕ). cellAt b i r j) (sym (a .begins)) ∙ ap (byteAt b) (sym (same-place r j)) ∙ filler-zero b right s (a .one) r j l p q
+
   -- ---- valid rows
   valid-tab : (n : ℕ) (D : List ℕ) (f g : ℕ → ℕ) → valid D (tab n f) (tab n g) ≡ allBelow n (λ j. inDomain (g j) (getD D (f j) 0))
   unfolding tab valid allBelow
@@ -135,6 +139,10 @@ module _ {b : List ℕ} {begin s : ℕ} (a : AtSheet b begin s) where
       ∙ ap (λ (x : List ℕ). getD x j 0) (getD-tab [] (rowsOf b s) (rowOf b s) r l)
       ∙ getD-tab 0 (widthOf b s) (λ j. byteAt b (rowPlace b s r + j)) j p
       ∙ ap (byteAt b) (same-place r j ∙ ap (λ (f : ℕ). cellPlace f r j) (a .begins))
+
+  pub rows-size : length ((sheetAt (bookOf b) s) .rows) ≡ rowsOf b s
+  unfolding sheetOf
+  rows-size = ap (λ (x : Sheet). length (x .rows)) sheet-at ∙ length-tab (rowsOf b s) (rowOf b s)
 
   pub sheet-columns : (sheetAt (bookOf b) s) .columns ≡ tab (widthOf b s) (columnOf b s)
   unfolding sheetOf

@@ -21,7 +21,7 @@ use Rattle.words.specs.Sheets.{AtSheet, SetSupport, Loses, Struck, Struc
 use Rattle.words.proofs.Gathers.{same-sets}
 use Rattle.words.proofs.Indexes.{set-below}
 use Rattle.words.proofs.Places.{column-below, width-most}
-use Rattle.cells.proofs.Walks.{shifted-bit}
+use Rattle.cells.proofs.Walks.{four-all, shifted-bit}
 
 pub loses-none : {D : List ℕ} → IsStore 16 D → Loses D D 0
 loses-none {D} d =
@@ -151,13 +151,14 @@ struck-all-places {b} {begin} {s} a {W} {x} {y} {D} {E} w h p =
 
 -- ---- the domains of the places
 pub wanted-none : {b : List ℕ} {s : ℕ} {D x : List ℕ} → x ≡ replicate 4 1 → Wanted b s D 0 x
-wanted-none {b} {s} {D} {x} e = record { small = rw e (same-sets 1 (omega arith)); at = λ j l. absurd (omega arith) }
+wanted-none {b} {s} {D} {x} e = record { small = rw e (same-sets 1 (omega arith)); at = λ j l. absurd (omega arith); rest = λ j l m. ap (λ (y : List ℕ). getD y j 0) e ∙ four-all (λ j. _≡_ {A = ℕ} (getD (replicate 4 1) j 0) 1) refl refl refl refl j m }
 
 pub wanted-more : {b : List ℕ} {s n c : ℕ} {D x : List ℕ} → Wanted b s D n x → n < 4 → c ≡ columnOf b s n → IsStore 16 D → Wanted b s D (n + 1) (set x n (getD D c 0))
 wanted-more {b} {s} {n} {c} {D} {x} h l e d =
     record {
       small = record { size = length-set x n _ ∙ h .small .size; fits = set-below x n (getD D c 0) (2 ^ 32) (d .bits c) (h .small .fits) };
       at = λ j m. go j (below j n) m;
+      rest = λ j m q. getD-set-other x n j (getD D c 0) 0 (λ z. omega arith) ∙ h .rest j (omega arith) q;
     }
   where
     go : (j : ℕ) → (j < n) ⊎ (n ≤ j) → j < n + 1 → getD (set x n (getD D c 0)) j 0 ≡ getD D (columnOf b s j) 0

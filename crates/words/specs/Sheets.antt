@@ -146,10 +146,11 @@ NothingMissed shorts j x y = (bit (8 * j + 7) shorts ≡ false) ⊎ ((v : ℕ) �
 unfoldable pub anyAt : List ℕ → ℕ → List ℕ → ℕ → ℕ → Bool
 anyAt b s W j r = isSet W s r && isAny (valueAt b s r j)
 
--- the sets x are the domains at the places below n
+-- the sets x are the domains at the places below n, and 0 alone at the others
 pub record Wanted (b : List ℕ) (s : ℕ) (D : List ℕ) (n : ℕ) (x : List ℕ) : Type 0 where
   pub small : SmallSets x
   pub at : (j : ℕ) → j < n → getD x j 0 ≡ getD D (columnOf b s j) 0
+  pub rest : (j : ℕ) → n ≤ j → j < 4 → getD x j 0 ≡ 1
 
 -- domains lose values; `lost` are the columns that lose one
 pub record Loses (D D′ : List ℕ) (lost : ℕ) : Type 0 where

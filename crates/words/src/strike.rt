@@ -10,7 +10,7 @@ ghost use Rattle.words.specs.Sheets.{AtSheet, IsSheet, SheetWords, Short
 ghost use Rattle.words.specs.Looks.{Revised, SheetKnown};
 
 // The domain of each place of sheet s; of a place that is not used, 0 alone, which is what every row has there.
-fn wanted(book: &[u8], s: usize, dom: &[u32; 16], x: &mut [u32; 4])
+pub fn wanted(book: &[u8], s: usize, dom: &[u32; 16], x: &mut [u32; 4])
     requires { ⌜ IsSheet (now book) s × IsStore 16 (now dom) × (now x ≡ replicate 4 1) ⌝ }
     ensures { λ r. ⌜ Wanted (now (book .entry)) s (now (dom .entry)) (widthOf (now (book .entry)) s) (now (x .exit)) ⌝ }
 {

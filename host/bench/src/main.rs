@@ -6,7 +6,7 @@
 //! `-- --out FOLDER` it writes there. Both sides are code for plain x86-64, and all are called in turn,
 //! round by round.
 //!
-//! - What is timed: `subjects`, with the books of `hard`.
+//! - What is timed: `subjects`, with the books of `hard` and of `worst`.
 //! - Who is timed: the library, `opponents`, frozen at document 01, and `gecode`. `agree` sees first
 //!   that all show the same.
 //! - The timing: `timed`, which says who does what, and `race`.
@@ -22,6 +22,7 @@ mod picture;
 mod race;
 mod subjects;
 mod timed;
+mod worst;
 
 use measurement::{Kind, Measurement};
 use page::Page;

@@ -4,6 +4,7 @@ use crate::gecode::Tables;
 use crate::hard;
 use crate::measurement::{thousands, Kind};
 use crate::opponents::{finish, Packed};
+use crate::worst;
 use conformance::{
     all_values, back, harbour, mend, narrow, plant, regular, write, Book, Order, Random, Sheet,
     ANY, BLOCK, FINISH, MARK,
@@ -63,6 +64,24 @@ impl Subject {
         }
     }
 
+    /// This book, which has short rows, and whether it allows all choices; its narrows are those of one with a seeded
+    /// value in place of each 255.
+    fn worst(name: &str, all: bool, book: &Book) -> Self {
+        let mut plain = book.clone();
+        let random = &mut Random::new(0);
+        let cells = plain.sheets.iter_mut().flat_map(|sheet| &mut sheet.rows);
+        let any = cells.flatten().filter(|cell| **cell == ANY);
+        any.for_each(|cell| *cell = random.below(32) as u8);
+        let plain = Self::new(name, &planted(plain), ANSWERED);
+        let but = if all { "" } else { " but one" };
+        Self {
+            size: format!("{}; all choices{but} allowed", plain.size),
+            book: write(book),
+            plain: Some(plain.book),
+            ..plain
+        }
+    }
+
     /// Gecode's tables of it, where it is there. It knows plain books alone.
     pub fn tables(&self) -> Option<Tables<'_>> {
         let plain = self.plain.is_none();
@@ -87,6 +106,7 @@ impl Subject {
 
 const CHECKED: &[Kind] = &[Kind::Check];
 const SHORT: &[Kind] = &[Kind::Check, Kind::Opening, Kind::Narrow];
+const ANSWERED: &[Kind] = &[Kind::Opening, Kind::Narrow];
 
 /// Every book that is timed.
 pub fn subjects() -> Vec<Subject> {
@@ -117,6 +137,9 @@ pub fn subjects() -> Vec<Subject> {
         for width in 2..=4 {
             add(&format!("full, width {width}"), planted(full(32, width)));
         }
+    }
+    for (name, allows_all, book) in worst::books() {
+        all.push(Subject::worst(name, allows_all, &book));
     }
     all
 }

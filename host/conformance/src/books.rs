@@ -29,6 +29,15 @@ pub fn regular(columns: usize, values: u8, sheets: usize, rows: usize, width: us
     with_sheets(random, vec![values; columns], sheets, |_| (rows, width))
 }
 
+/// A book of one sheet over all columns, of so many values each.
+pub fn one_sheet(counts: &[u8], rows: Vec<Vec<u8>>) -> Book {
+    let columns = (0..counts.len() as u8).collect();
+    Book {
+        counts: counts.to_vec(),
+        sheets: vec![Sheet { columns, rows }],
+    }
+}
+
 /// Any book of the format, from one column alone to 33 blocks.
 pub fn any_book(random: &mut Random) -> Book {
     let size = random.below(10);
@@ -245,7 +254,7 @@ fn sheet(random: &mut Random, counts: &[u8], width: usize, rows: usize) -> Sheet
 }
 
 /// So many columns out of `all`, in rising order.
-fn columns(random: &mut Random, all: usize, width: usize) -> Vec<u8> {
+pub(crate) fn columns(random: &mut Random, all: usize, width: usize) -> Vec<u8> {
     let mut chosen = Vec::with_capacity(width);
     for column in 0..all {
         if random.below(all - column) < width - chosen.len() {

@@ -13,6 +13,8 @@
 mod books;
 mod case;
 mod compare;
+mod covers;
+mod done;
 pub mod kit;
 mod orders;
 mod program;
@@ -27,9 +29,11 @@ mod tally;
 mod write;
 pub mod wrong;
 
-pub use books::{any_book, harbour, plant, regular, tiny, BOARD, MOTOR, WIDTH};
+pub use books::{any_book, harbour, one_sheet, plant, regular, tiny, BOARD, MOTOR, WIDTH};
 pub use case::{Case, Mend};
 pub use compare::{agreed, agreed_run, compare, compare_run, Calls, FENCE, LIBRARY};
+pub use covers::stairs;
+pub use done::{count_done, look_for_done};
 pub use orders::{any_list, back, example_orders, narrow, searches, FINISH, MARK, NO_KIND};
 pub use program::{program, Folder};
 pub use random::Random;

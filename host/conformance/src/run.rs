@@ -1,7 +1,8 @@
 //! One seeded input of a run: a book, a list of orders, and a space for the answers.
 
-use crate::orders::{any_list, narrow, searches, FINISH};
-use crate::{any_book, books, plant, space_for, write, Book, Case, Order, Random};
+use crate::covers::covering;
+use crate::orders::{any_list, back, narrow, searches, FINISH, MARK};
+use crate::{all_values, any_book, books, plant, space_for, write, Book, Case, Order, Random};
 use std::ops::RangeInclusive;
 
 /// What kind of book a run has.
@@ -15,6 +16,8 @@ pub enum Shape {
     Ring,
     /// Sheets that make two columns differ, so that a full set takes a search or isn't there.
     Differing,
+    /// Sheets that allow every choice, or all but one, so that they are done with several columns open.
+    Covering,
     /// Anything that the format has.
     Any,
     /// Sixteen columns of 32 values, eight sheets of 508 rows.
@@ -42,7 +45,8 @@ impl Run {
         let random = &mut Random::new(seed);
         let shape = match random.below(40) {
             0..=9 => Shape::Tiny,
-            10..=23 => Shape::Small,
+            10..=19 => Shape::Small,
+            20..=23 => Shape::Covering,
             24..=28 => Shape::Ring,
             29..=31 => Shape::Differing,
             32..=35 => Shape::Any,
@@ -54,6 +58,7 @@ impl Run {
             Shape::Small => planted(random, books::small_book, 1..=6),
             Shape::Ring => books::ring(random),
             Shape::Differing => books::differing(random),
+            Shape::Covering => covering(random),
             Shape::Any | Shape::Damaged => planted(random, any_book, 0..=8),
             Shape::Largest => planted(random, books::largest_book, 0..=8),
         };
@@ -61,6 +66,10 @@ impl Run {
         let mut list = any_list(random, &book, &aim, length);
         if shape == Shape::Largest {
             finish_late(random, &mut list, &aim);
+        }
+        // A list at the limit keeps its length.
+        if shape == Shape::Covering && list.len() < 25 {
+            to_and_fro(random, &mut list, &book);
         }
         let orders = list_bytes(random, &list);
         let book = match shape {
@@ -116,6 +125,16 @@ fn finish_late(random: &mut Random, list: &mut Vec<Order>, aim: &[u8]) {
         list.extend(narrows.map(|&column| narrow(column, 1 << aim[usize::from(column)])));
         list.push(FINISH);
     }
+}
+
+/// First of all some value is taken from a column, and given back: a sheet that lacks a choice with this
+/// value is done between.
+fn to_and_fro(random: &mut Random, list: &mut Vec<Order>, book: &Book) {
+    let column = random.below(book.counts.len());
+    let count = book.counts[column];
+    let value = 1 << random.below(count.into());
+    let taken = narrow(column as u8, all_values(count) & !value);
+    list.splice(0..0, [MARK, taken, back(1)]);
 }
 
 /// As many bytes as the answers need, or one too few, or any other number.

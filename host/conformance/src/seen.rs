@@ -44,6 +44,20 @@ impl Seen {
         answers.iter().map(Self::read).collect()
     }
 
+    /// The state at each of these answers, the opening first: a finish shows its full set where the domains would be,
+    /// and leaves them.
+    pub fn states(answers: &[Self]) -> Vec<Self> {
+        let mut states: Vec<Self> = Vec::with_capacity(answers.len());
+        for answer in answers {
+            let mut state = *answer;
+            if let Some(before) = states.last().filter(|_| answer.outcome != 0) {
+                state.domains = before.domains;
+            }
+            states.push(state);
+        }
+        states
+    }
+
     /// Whether the session is dead.
     pub fn is_dead(&self) -> bool {
         self.status == 0

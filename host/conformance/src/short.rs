@@ -4,7 +4,7 @@ use crate::{Seen, Tally};
 use reference::{closure, is_short, lies_in, written_out, Book, Sheet, ANY};
 
 /// "rows n, 0 to 508"
-const MOST_ROWS: usize = 508;
+pub(crate) const MOST_ROWS: usize = 508;
 
 /// "a book with such rows written out, where that book is within the limits"
 pub fn twin(book: &Book) -> Option<Book> {

@@ -33,24 +33,21 @@ fn ordered(kind: Kind, refusal: u8) -> String {
 /// Counts one run: its orders, and the answers to them, the opening first. `counts` has the number
 /// of values of each column.
 pub fn count_steps(tally: &mut Tally, counts: &[u8], orders: &[Order], answers: &[Seen]) {
-    let mut state = answers[0];
+    let states = Seen::states(answers);
+    let opening = &states[0];
     tally.add(
-        &format!("openings: {}", STATUS[usize::from(state.status)]),
+        &format!("openings: {}", STATUS[usize::from(opening.status)]),
         1,
     );
-    if !state.is_dead() {
+    if !opening.is_dead() {
         let all: usize = counts.iter().map(|&count| usize::from(count)).sum();
-        tally.add("values struck at openings", all - values(&state.domains));
+        tally.add("values struck at openings", all - values(&opening.domains));
     }
-    for (order, answer) in orders.iter().zip(&answers[1..]) {
-        let mut after = *answer;
+    for ((order, answer), state) in orders.iter().zip(&answers[1..]).zip(states.windows(2)) {
         if answer.outcome != 0 {
-            // A finish shows its full set where the domains would be, and leaves the state.
-            after.domains = state.domains;
-            finish(tally, &state, answer);
+            finish(tally, &state[0], answer);
         }
-        step(tally, order, &state, &after);
-        state = after;
+        step(tally, order, &state[0], &state[1]);
     }
 }
 

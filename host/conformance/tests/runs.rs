@@ -3,7 +3,8 @@
 //!
 //! `FITTING_SESSIONS` asks for more of them than the usual number.
 
-use conformance::{agreed_run, asked, count_short, count_steps, look_for_steps, show, space_for};
+use conformance::{agreed_run, asked, count_done, count_short, count_steps, show, space_for};
+use conformance::{look_for_done, look_for_steps};
 use conformance::{Random, Run, Seen, Shape::*, Tally};
 use reference::{book_refusals, run_refusals};
 use std::panic;
@@ -47,8 +48,10 @@ fn answers(seed: u64, tally: &mut Tally) -> Vec<Seen> {
     assert_eq!(accepted.count() as u64, number, "seed {seed}");
     prefix_runs_alike(seed, &run, &space);
     let book = reference::decode(&run.book).expect("an accepted book");
-    count_steps(tally, &book.counts, run.orders.as_chunks().0, &answers);
+    let orders = run.orders.as_chunks().0;
+    count_steps(tally, &book.counts, orders, &answers);
     count_short(tally, &book, &answers);
+    count_done(tally, &book, orders, &answers);
     answers
 }
 
@@ -67,11 +70,14 @@ fn prefix_runs_alike(seed: u64, run: &Run, space: &[u8]) {
 fn every_run_agrees() {
     let mut tally = Tally::default();
     look_for_steps(&mut tally);
+    look_for_done(&mut tally);
     let books = book_refusals().into_iter().map(|(refusal, _)| refusal);
     for refusal in books.chain(run_refusals()).chain([0]) {
         tally.add(&format!("runs, refusal {refusal}"), 0);
     }
-    for shape in [Tiny, Small, Ring, Differing, Any, Largest, Damaged] {
+    for shape in [
+        Tiny, Small, Ring, Differing, Covering, Any, Largest, Damaged,
+    ] {
         tally.add(&format!("books: {shape:?}"), 0);
     }
     let seeds = 0..asked("FITTING_SESSIONS", 100_000);

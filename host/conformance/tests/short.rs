@@ -4,8 +4,8 @@
 //! `FITTING_TWINS` asks for more books with a written-out twin than the usual number.
 
 use conformance::kit::{self, read_contents};
-use conformance::{agreed_run, asked, has_short_rows, narrow, show, space_for, twin, write};
-use conformance::{Book, Order, Run, Seen, Sheet, Tally, ANY, FINISH};
+use conformance::{agreed_run, asked, has_short_rows, narrow, one_sheet, show, space_for, twin};
+use conformance::{write, Book, Order, Run, Seen, Tally, ANY, FINISH};
 use reference::decode;
 
 /// Both versions give the same for the book and for its twin: the number, and every byte of the space.
@@ -23,15 +23,6 @@ fn after(book: &Book, orders: &[Order]) -> Vec<u32> {
     let (_, space) = agreed_run(&write(book), &orders, space_for(&orders));
     let seen = Seen::read(space.last_chunk().expect("an answer"));
     seen.domains[..book.counts.len()].to_vec()
-}
-
-/// A book of one sheet over all columns.
-fn one_sheet(counts: &[u8], rows: Vec<Vec<u8>>) -> Book {
-    let columns = (0..counts.len() as u8).collect();
-    Book {
-        counts: counts.to_vec(),
-        sheets: vec![Sheet { columns, rows }],
-    }
 }
 
 /// Any in each set of places, for each width, beside a plain row: after every narrow of every column to

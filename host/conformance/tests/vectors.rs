@@ -88,9 +88,10 @@ fn the_library_and_the_program_agree_with_each() {
 /// finish, and document 002's walk-through. There every domain becomes {1, 2, 3, 4}, which is mask 30: 8 of
 /// 15 tuples are left, and none has 3 for x0; then x1 loses 1 and 2, 4 tuples are left, and x2 loses 3 and 4.
 /// With "any board" for motor 0 the harbour book prints document 01's run too. Of rows 0 any and 1 3, the short
-/// one goes with value 0; and any brings no value back that another sheet has struck.
+/// one goes with value 0; and any brings no value back that another sheet has struck. A sheet of all four of 2 motors
+/// by 2 boards is done; one of nine pairs but 0 0 is so while one of its columns lacks value 0.
 #[rustfmt::skip]
-const EXAMPLES: [(&str, &[&str]); 16] = [
+const EXAMPLES: [(&str, &[&str]); 18] = [
     ("k1-opening", &["0 0 1 0 0 0 7 3 3", "accepted 0"]),
     ("k2-width-4", &["0 0 1 0 0 0 7 3 3", "1 0 2 0 3 0 4 2 2", "accepted 1"]),
     ("k3-board-1", &["0 0 1 0 0 0 7 3 3", "1 0 1 0 3 0 3 1 1", "accepted 1"]),
@@ -124,6 +125,16 @@ const EXAMPLES: [(&str, &[&str]); 16] = [
     ("any-of-lost-values", &[
         "0 0 1 0 1 0 1 6 3", "1 0 1 1 1 0 1 6 3", "2 0 2 1 3 0 1 4 1", "3 0 2 1 3 1 1 4 1", "4 0 1 0 1 0 1 6 3",
         "5 0 1 0 3 0 1 4 3", "6 0 1 0 3 1 1 4 1", "accepted 6",
+    ]),
+    ("done-all-four", &[
+        "0 0 1 0 1 0 3 3", "1 0 1 0 1 1 1 1", "2 0 1 1 1 0 3 3", "3 0 1 1 1 0 1 3", "4 0 2 1 1 0 1 2",
+        "5 0 1 0 1 0 3 3", "6 0 1 0 1 0 3 1", "accepted 6",
+    ]),
+    ("done-all-but-the-first", &[
+        "0 0 1 0 0 0 7 7", "1 0 1 1 0 0 7 7", "2 0 1 1 0 0 3 7", "3 0 1 1 0 0 3 3", "4 0 1 0 0 0 7 7",
+        "5 0 1 1 0 0 7 7", "6 0 1 1 1 0 6 7", "7 0 1 0 0 0 7 7", "8 0 1 1 0 0 7 7", "9 0 1 1 1 0 7 6",
+        "10 0 1 1 1 0 5 6", "11 0 1 0 0 0 7 7", "12 0 1 0 0 0 7 5", "13 0 1 0 0 0 5 5", "14 0 1 0 1 0 4 5",
+        "accepted 14",
     ]),
 ];
 

@@ -47,8 +47,15 @@ uint64_t fitting_check(const uint8_t *book, size_t book_len);
  *     +---------+--------+-------+--------+------+--------+------------------------------+
  *
  * The refusal is 0 or 20 to 25; the status 0 dead, 1 open, 2 decided; the finish 0, or 1 found, 2 none.
- * Bit v of a domain is set where value v is left. A refused run writes nothing, an accepted one only
- * its answers. The answers must not overlap the book or the orders.
+ * Bit v of a domain is set where value v is left.
+ *
+ * Bit s of done is set where sheet s is done: the status isn't 0, and the sheet allows every choice of one
+ * value left in each of its columns. A page may then hide the sheet's questions, also where several of its
+ * columns are open. Status and finish don't go by it. After a finish it is said of the session, as the
+ * status is, and not of the full set.
+ *
+ * A refused run writes nothing, an accepted one only its answers. The answers must not overlap the book
+ * or the orders.
  */
 uint64_t fitting_run(const uint8_t *book, size_t book_len, const uint8_t *orders, size_t orders_len,
                      uint8_t *answers, size_t answers_len);

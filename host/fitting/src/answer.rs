@@ -184,13 +184,29 @@ impl<'a> Answer<'a> {
         }
     }
 
-    /// The sheets that are done, bit s for sheet s.
+    /// The sheets that are done, bit s for sheet s; [`is_done`](Self::is_done) says when.
     pub fn done(&self) -> u8 {
         self.bytes[4]
     }
 
-    /// Whether a sheet is done: the session isn't dead, and at most one column of the sheet has more
-    /// than one value left.
+    /// Whether a sheet is done: the session isn't dead, and the sheet allows every choice of one value left
+    /// in each of its columns.
+    ///
+    /// A page may then hide the sheet's questions, also where several of its columns are open: whatever is
+    /// picked there, this sheet allows. It stays done at every narrow that leaves the session alive; a back
+    /// may end it. After a finish it is said of the session still, and not of the full set.
+    ///
+    /// ```
+    /// # let rows = vec![vec![0, 0], vec![0, 1], vec![1, 0], vec![1, 1]];
+    /// # let bytes = conformance::write(&conformance::one_sheet(&[2, 2], rows));
+    /// # let book = fitting::check(&bytes)?;
+    /// # let mut space = fitting::Space::new();
+    /// // The sheet has all four of 2 motors by 2 boards.
+    /// let opening = book.run(&fitting::OrderList::new(), &mut space).opening();
+    /// assert!(opening.is_done(0));
+    /// assert!(opening.domains().all(|left| left.len() == 2)); // and both columns are open
+    /// # Ok::<(), fitting::Refusal>(())
+    /// ```
     pub fn is_done(&self, sheet: usize) -> bool {
         sheet < 8 && self.done() >> sheet & 1 == 1
     }

@@ -2,7 +2,8 @@
 
 use crate::Input;
 use conformance::{
-    compare_run, count_short, count_steps, space_for, Calls, Seen, Tally, FENCE, LIBRARY,
+    compare_run, count_done, count_short, count_steps, space_for, Calls, Seen, Tally, FENCE,
+    LIBRARY,
 };
 
 /// Compares both versions on the input that these bytes stand for, and counts it. A difference
@@ -22,6 +23,7 @@ pub fn try_bytes(bytes: &[u8], tally: &mut Tally) {
         let (orders, answers) = (input.orders.as_chunks().0, Seen::read_all(&answers));
         count_steps(tally, &book.counts, orders, &answers);
         count_short(tally, &book, &answers);
+        count_done(tally, &book, orders, &answers);
     }
 }
 

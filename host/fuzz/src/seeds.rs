@@ -1,12 +1,13 @@
 //! The first inputs of a fuzz run: the conformance kit, small sweeps, and seeded books and lists.
 
 use crate::{described, described_by_seed, raw, LONGEST_INPUT, MENDED};
-use conformance::{changed, harbour, kit, narrow, regular, tiny, write};
-use conformance::{Book, Case, Run, Sheet, ANY, FINISH};
+use conformance::{back, changed, harbour, kit, narrow, one_sheet, regular, stairs, tiny, write};
+use conformance::{Book, Case, Run, Sheet, ANY, FINISH, MARK};
 use std::ops::Range;
 
 /// The first inputs, always the same: the vectors of the conformance kit, sweeps over single bytes, over pairs
-/// of row bytes and over row counts, and so many seeded runs and seeded books, damaged ones among them.
+/// of row bytes and over row counts, sheets that are done or nearly, and so many seeded runs and seeded books,
+/// damaged ones among them.
 pub fn seeds(count: u64) -> Vec<Vec<u8>> {
     let mut seeds = Vec::new();
     for vector in kit::vectors() {
@@ -31,6 +32,7 @@ pub fn seeds(count: u64) -> Vec<Vec<u8>> {
     for rows in (1..=508).filter(|rows| rows % 64 < 2) {
         seeds.extend([0, 1].map(|value| last_short_row(rows, value)));
     }
+    seeds.extend(done_sheets());
     for seed in 0..count {
         let run = Run::new(seed);
         seeds.extend(both(&run.book, &run.orders));
@@ -109,15 +111,35 @@ fn rows_past_a_gap() -> Vec<u8> {
     two_columns((0..50).map(row).collect(), &[narrow(0, 1), FINISH].concat())
 }
 
+/// Two sheets of each width from 2 to 4, over columns of two values: the first allows every choice, the second all but
+/// the last, and is done when a value of that is gone. By plain rows, with the first row of each twice; and by short
+/// ones.
+fn done_sheets() -> Vec<Vec<u8>> {
+    let mut seeds = Vec::new();
+    for width in 2..=4_u8 {
+        let plain = |n: u8| (0..width).map(|i| n >> i & 1).collect();
+        let mut all: Vec<Vec<u8>> = (0..1 << width).map(plain).collect();
+        all.insert(0, all[0].clone());
+        let mut stairs = stairs(&vec![2; width.into()]);
+        stairs.push(vec![1; width.into()]);
+        for rows in [all, stairs] {
+            let sheet = |first: u8, rows: &[Vec<u8>]| Sheet {
+                columns: (first..first + width).collect(),
+                rows: rows.to_vec(),
+            };
+            let book = Book {
+                counts: vec![2; 2 * usize::from(width)],
+                sheets: vec![sheet(0, &rows), sheet(width, &rows[..rows.len() - 1])],
+            };
+            let orders = [MARK, narrow(width, 1), back(1), narrow(width, 2), FINISH].concat();
+            seeds.extend(both(&write(&book), &orders));
+        }
+    }
+    seeds
+}
+
 /// A book of two columns of 32 values and a sheet of these rows, with these orders.
 fn two_columns(rows: Vec<Vec<u8>>, orders: &[u8]) -> Vec<u8> {
-    let sheet = Sheet {
-        columns: vec![0, 1],
-        rows,
-    };
-    let book = Book {
-        counts: vec![32; 2],
-        sheets: vec![sheet],
-    };
+    let book = one_sheet(&[32; 2], rows);
     raw(MENDED, &write(&book), orders)
 }

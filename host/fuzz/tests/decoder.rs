@@ -1,7 +1,7 @@
 //! Any bytes are an input, and the inputs that come of them are of every kind.
 
-use conformance::{example_orders, harbour, look_for_steps, regular, space_for, write};
-use conformance::{Random, Tally, ANY, FINISH, NO_KIND};
+use conformance::{example_orders, harbour, look_for_done, look_for_steps, regular, space_for};
+use conformance::{write, Random, Tally, ANY, FINISH, NO_KIND};
 use fuzz::{described, put_aside_long_finishes, raw, seeds, try_bytes};
 use fuzz::{Input, DESCRIBED, LONGEST_INPUT, MENDED};
 use reference::{book_refusals, run_refusals};
@@ -121,6 +121,7 @@ fn seeded_inputs_agree_and_are_of_every_kind() {
     let (random, seeds) = (&mut Random::new(2), seeds(300));
     let mut tally = Tally::default();
     look_for_steps(&mut tally);
+    look_for_done(&mut tally);
     for (refusal, _) in book_refusals() {
         tally.add(&format!("books, refusal {refusal}"), 0);
     }

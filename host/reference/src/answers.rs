@@ -1,5 +1,6 @@
 //! The 72 bytes of an answer.
 
+use crate::done::allows_every_choice;
 use crate::orders::value_bit;
 use crate::session::{Outcome, Shown};
 use crate::Book;
@@ -16,15 +17,12 @@ fn status(domains: &[u32]) -> u8 {
     }
 }
 
-/// "Sheet s is *done* when the session isn't dead and at most one column of s holds more than one
-/// value … The done byte has bit s for sheet s."
-fn done(book: &Book, domains: &[u32]) -> u8 {
+/// "Done now holds exactly when the session isn't dead and every choice of one value from the current
+/// domain of each column of the sheet is allowed by it." "The done byte has bit s for sheet s."
+pub(crate) fn done(book: &Book, domains: &[u32]) -> u8 {
     let mut done = 0;
     for (s, sheet) in book.sheets.iter().enumerate() {
-        let columns = sheet.columns.iter();
-        let held = columns.map(|&column| domains[usize::from(column)].count_ones());
-        let open = held.filter(|&values| values > 1).count();
-        if status(domains) != 0 && open <= 1 {
+        if status(domains) != 0 && allows_every_choice(sheet, domains) {
             done |= 1 << s;
         }
     }

@@ -81,7 +81,7 @@ pub fn search(book: &Book, domains: &[u32], tries: &mut usize) -> Option<Outcome
 }
 
 /// The values of a domain in rising order.
-fn values_of(domain: u32) -> Vec<u8> {
+pub(crate) fn values_of(domain: u32) -> Vec<u8> {
     (0..32)
         .filter(|&value| domain & value_bit(value) != 0)
         .collect()

@@ -1,5 +1,5 @@
 //! An independent version of the two calls, the check of a book and the run of a list, written from
-//! document 01, from document 02's requests that have landed (W1, W2) and the readings of both in
+//! document 01, from document 02's requests that have landed (W1, W2, W3) and the readings of both in
 //! `docs/DECISIONS.md`, and from nothing else.
 //!
 //! It is meant to be read beside these documents: each piece stands under the sentence that it
@@ -12,6 +12,7 @@ mod answers;
 mod book;
 mod cells;
 mod closure;
+mod done;
 mod finish;
 mod head;
 mod orders;

@@ -2,6 +2,7 @@
 //! its number, are tests of `conformance`, where both versions are held against them.
 
 mod defined;
+mod done;
 mod short;
 
 use crate::{book_refusals, check, decode, run_refusals, Book, Kind, Sheet};

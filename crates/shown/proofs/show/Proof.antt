@@ -5,10 +5,7 @@ use Rattle.shown.proofs.show.Statement.{statement}
 use Rattle.shown.proofs.show.Tie as tie
 
 returns : tie.Need-returns
-returns c =
-    let s : tie.After-summarise = search in
-    let w : tie.After-write = search in
-    shows-at _ _ (s .summarise .ensures) refl (w .write .ensures)
+returns c = let w : tie.After-write = search in shows-at _ _ refl (w .write .ensures)
 
 pub show-spec : {M : Type 1} → statement M
-show-spec = tie.close (tie.spec (λ c κs. search needs) (search needs) (search needs) (λ c κs. search needs) (search needs) returns)
+show-spec = tie.close (tie.spec (search needs) (search needs) (λ c κs. search needs) (search needs) returns)

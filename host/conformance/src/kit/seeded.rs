@@ -4,7 +4,7 @@ use super::Vector;
 use crate::{space_for, Random, Run, Shape};
 
 /// How many of each shape.
-const SHAPES: [(Shape, usize, &str); 5] = [
+const SHAPES: [(Shape, usize, &str); 6] = [
     (Shape::Tiny, 5, "up to three columns of up to four values"),
     (
         Shape::Small,
@@ -17,6 +17,11 @@ const SHAPES: [(Shape, usize, &str); 5] = [
         "sheets that hand on each lost value in a ring",
     ),
     (Shape::Differing, 5, "sheets that make two columns differ"),
+    (
+        Shape::Covering,
+        8,
+        "sheets that allow every choice, or all but one",
+    ),
     (Shape::Damaged, 5, "a damaged book"),
 ];
 

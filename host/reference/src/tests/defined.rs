@@ -1,9 +1,11 @@
-//! The settled domains and the first full set once more, by nothing but their definitions: every box that there
-//! is, and every set.
+//! The settled domains, the first full set and the done sheets once more, by nothing but their definitions: every
+//! box that there is, every set, and every choice.
 
 use super::{described, described_harbour};
 use crate::cells::matched;
-use crate::finish::{by_trying_all, finish, is_full, one_of_each, sets_within};
+use crate::done::allows_every_choice;
+use crate::finish::{by_trying_all, finish, is_full, one_of_each, sets_within, values_of};
+use crate::orders::value_bit;
 use crate::{all_values, closure, is_short, lies_in, search, written_out};
 use crate::{Book, Outcome, Sheet, ANY};
 
@@ -40,6 +42,22 @@ fn union_of_sound_boxes(book: &Book, allowed: &[u32]) -> Vec<u32> {
         }
     }
     union
+}
+
+/// "every choice of one value from the current domain of each column of the sheet is allowed by it": how
+/// many are not.
+pub(super) fn choices_missing(sheet: &Sheet, domains: &[u32]) -> usize {
+    let columns = sheet.columns.iter();
+    let held = columns.map(|&column| values_of(domains[usize::from(column)]));
+    let mut choices = one_of_each(&held.collect::<Vec<_>>());
+    choices.retain(|choice| {
+        let mut alone = domains.to_vec();
+        for (&column, &value) in sheet.columns.iter().zip(choice) {
+            alone[usize::from(column)] = value_bit(value);
+        }
+        !sheet.rows.iter().any(|row| lies_in(sheet, row, &alone))
+    });
+    choices.len()
 }
 
 /// The search with all the tries that it wants.
@@ -105,11 +123,12 @@ pub(super) fn without_short_rows(book: &Book) -> Book {
 /// "What a buyer sees of an accepted book must equal a book with such rows written out": of that one too, what
 /// document 01 says of plain rows.
 #[test]
-fn closure_and_search_give_what_the_definitions_say() {
+fn all_give_what_the_definitions_say() {
     let numbers = &mut Numbers(1);
     let [mut dead, mut struck, mut kept] = [0; 3];
     let [mut none, mut lowest, mut higher] = [0; 3];
     let [mut short, mut kept_by_short, mut found_by_short] = [0; 3];
+    let [mut two_open, mut one_missing, mut more_missing] = [0; 3];
     for case in 0..30_000 {
         let book = numbers.book();
         let mut allowed = Vec::new();
@@ -125,6 +144,18 @@ fn closure_and_search_give_what_the_definitions_say() {
         assert_eq!(finish(&book, &domains), first, "case {case}");
         // Settling loses no full set, so the same one is first among all values.
         assert_eq!(by_trying_all(&book, &allowed), first, "case {case}");
+        for sheet in &book.sheets {
+            let missing = choices_missing(sheet, &domains);
+            let done = allows_every_choice(sheet, &domains);
+            assert_eq!(done, missing == 0, "case {case}: {book:?}");
+            let columns = sheet.columns.iter();
+            let open = columns.filter(|&&column| domains[usize::from(column)].count_ones() > 1);
+            match missing {
+                0 => two_open += usize::from(open.count() > 1),
+                1 => one_missing += 1,
+                _ => more_missing += 1,
+            }
+        }
         let plain = without_short_rows(&book);
         if plain != book {
             let twin = written_out(&book);
@@ -156,6 +187,11 @@ fn closure_and_search_give_what_the_definitions_say() {
         "{short} with short rows, {kept_by_short} where they keep a value, {found_by_short} where \
          without them another set is first, or none"
     );
+    println!(
+        "sheets: {two_open} done with two columns open or more, {one_missing} one choice short, \
+         {more_missing} more"
+    );
+    assert!(two_open > 1_000 && one_missing > 1_000 && more_missing > 1_000);
     assert!(dead > 5_000 && struck > 5_000 && kept > 5_000);
     assert!(short > 5_000 && kept_by_short > 2_000 && found_by_short > 2_000);
     assert!(none > 100 && lowest > 2_000 && higher > 2_000);

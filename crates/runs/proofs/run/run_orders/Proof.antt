@@ -8,39 +8,61 @@ use native.Mathlib.Omega.{arith}
 use lib.Dec.{eqb}
 use lib.ListN.{drop, length, take}
 use borrow.Author.Needs.{needs}
-use Rattle.model.specs.Tests.{oneIf}
+use Rattle.model.specs.Orders.{trail, trailFrom}
+use Rattle.model.specs.Tests.{oneIf, tab}
+use Rattle.book.specs.Decoding.{bookOf}
 use Rattle.sessions.specs.Holds.{SomeSession, Stepped}
+use Rattle.sessions.specs.Lists.{ordersTo}
 use Rattle.sessions.proofs.Lists.{order-part}
+use Rattle.status.specs.Status.{SummaryIs}
+use Rattle.status.proofs.Status.{laid-sheets}
 use Rattle.sessions.proofs.Holds.{back-room, mark-room, narrow-inside, step-back, step-mark, step-narrow, step-other, step-refused}
 use Rattle.runs.specs.Runs.{RanTo}
 use Rattle.runs.proofs.Results.{right-list}
-use Rattle.runs.proofs.Runs.{counts-none, counts-one, depth-small, more, opened-long, opened-ran, ran-few, ran-from, ran-room, refuses-small}
+use Rattle.runs.proofs.Runs.{counts-none, counts-one, depth-small, more, opened-long, opened-ran, ran-few, ran-from, ran-room, refuses-small, says-more}
 use Rattle.runs.proofs.run.run_orders.Statement.{statement}
 use Rattle.runs.proofs.run.run_orders.Tie as tie
 
 abbrev Inv-loop : tie.InvT-loop
-Inv-loop book orders answers₀ begins scopes shorts s₀ accepted₀ i₀ answers s accepted i =
+Inv-loop book orders answers₀ begins scopes shorts s₀ told₀ accepted₀ i₀ answers s told accepted i =
     RanTo book orders answers₀ i s accepted answers × (i ≤ length orders / 8) × (72 * (length orders / 8) + 72 ≤ length answers₀)
+    × SummaryIs book (trail (bookOf book) (ordersTo orders i)) told
 
 abbrev μ-loop : tie.MeasureT-loop
-μ-loop book orders answers₀ begins scopes shorts s₀ accepted₀ i₀ answers s accepted i = length orders / 8 - i
+μ-loop book orders answers₀ begins scopes shorts s₀ told₀ accepted₀ i₀ answers s told accepted i = length orders / 8 - i
 
-opened-requires : tie.Need-opened-requires Inv-loop μ-loop
-opened-requires c κs =
+show-opening-requires : tie.Need-show-opening-requires Inv-loop μ-loop
+show-opening-requires c κs =
     let start : tie.Start Inv-loop μ-loop = search in
     let at-lay-out : tie.After-lay-out Inv-loop μ-loop = search in
-    (at-lay-out .lay-out .ensures, omega (arith, start .pre .enough))
+    let s : tie.After-open Inv-loop μ-loop = search in
+    (laid-sheets (at-lay-out .lay-out .ensures), record { trail = _; is = s .«open» .ensures .current }, omega (arith, start .pre .enough))
 
 loop-holds : tie.Need-loop-holds Inv-loop μ-loop
+unfolding tab trailFrom
 loop-holds c =
-    let o = c .before .before .opened .ensures in
     let start : tie.Start Inv-loop μ-loop = search in
+    let s : tie.After-open Inv-loop μ-loop = search in
+    let o : tie.After-show-opening Inv-loop μ-loop = search in
     let p = start .pre .enough in
-    (opened-ran _ _ _ (omega (arith, p)) (o .0) (o .1), omega arith, omega (arith, p, opened-long _ (start .args .orders .now) _ (omega (arith, p)) (o .0) (o .1)))
+    let h = s .«open» .ensures in
+    let w = o .show-opening .ensures (h .current) in (
+      opened-ran _ _ _ (omega (arith, p)) h (w .1),
+      omega arith,
+      omega (arith, p, opened-long _ (start .args .orders .now) _ (omega (arith, p)) h (w .1)),
+      w .0,
+    )
 
 -- the function's start, from the loop's head
 abbrev origin : tie.At-loop Inv-loop μ-loop → tie.Start Inv-loop μ-loop
-origin c = c .before .before .before .before .before .before .before .before .before .before .before .before .before .before .before
+origin c = c .before .before .before .before .before .before .before .before .before .before .before .before .before .before .before .before .before .before .before
+
+-- the session of the empty trail, and answer 0
+abbrev shown-first : tie.At-loop Inv-loop μ-loop → tie.After-show-opening Inv-loop μ-loop
+shown-first c = c .before .before .before
+
+abbrev opened : tie.At-loop Inv-loop μ-loop → tie.After-open Inv-loop μ-loop
+opened c = c .before .before .before .before .before .before .before .before
 
 -- ---- an order's bytes lie in the list
 mul-order : tie.Need-mul-order Inv-loop μ-loop
@@ -57,7 +79,7 @@ abbrev start : tie.After-refusal Inv-loop μ-loop → tie.Start Inv-loop μ-loop
 start c = origin (c .before .before .before)
 
 abbrev laid : tie.After-refusal Inv-loop μ-loop → tie.After-lay-out Inv-loop μ-loop
-laid c = c .before .before .before .before .before .before .before .before .before .before .before
+laid c = c .before .before .before .before .before .before .before .before .before .before .before .before .before .before .before
 
 abbrev head : tie.After-refusal Inv-loop μ-loop → tie.At-loop Inv-loop μ-loop
 head c = c .before .before .before
@@ -165,11 +187,15 @@ loop-again c =
     let l = head t .loop in
     let j : tie.Joined1 Inv-loop μ-loop = search in
     let s = stepped j in
+    let shown : tie.After-show-order Inv-loop μ-loop = search in
+    let w = shown .show-order .ensures in
     let test = t .before .before .loop-test .taken in (
       more _ _ _ (order-part (start t .args .orders .now) (l .i) _ _ refl refl) (omega (arith, test, l .inv .2)) (l .inv .0) (t .refusal .ensures _ refl)
-          (s .0) (s .1) (c .before .before .show-order .ensures),
+          (s .0) (l .inv .3) w (s .1),
       omega (arith, test),
       l .inv .2,
+      says-more _ _ _ (order-part (start t .args .orders .now) (l .i) _ _ refl refl) (omega (arith, test, l .inv .2)) (l .inv .0) (t .refusal .ensures _ refl)
+          (s .0) (l .inv .3) w,
     )
 
 -- ---- the end
@@ -183,14 +209,15 @@ returns : tie.Need-returns Inv-loop μ-loop
 returns c =
     let l = c .before .loop in
     let start = origin (c .before) in
-    let o = c .before .before .before .before .opened .ensures in
+    let s = opened (c .before) .«open» .ensures in
+    let o = shown-first (c .before) .show-opening .ensures (s .current) in
     let e : l .i ≡ length (start .args .orders .now) / 8 = omega (arith, c .loop-test .left, l .inv .1) in
-    ran-from _ _ _ (omega (arith, start .pre .enough)) (o .0) (o .1) (rw e at (l .inv .0))
+    ran-from _ _ _ (omega (arith, start .pre .enough)) s (o .1) (rw e at (l .inv .0))
 
 pub run-orders-spec : {M : Type 1} → statement M
 run-orders-spec =
     tie.close
-    (tie.spec Inv-loop μ-loop (λ c κs. search needs) opened-requires loop-holds mul-order mul-order-2 add-order (λ c. search needs) (λ c. search needs) (λ c. search needs)
+    (tie.spec Inv-loop μ-loop (λ c κs. search needs) (λ c κs. search needs) show-opening-requires loop-holds mul-order mul-order-2 add-order (λ c. search needs) (λ c. search needs) (λ c. search needs)
     (λ c κs. search needs) add-i add-accepted (λ c. search needs) shared-slice-read-wide (λ c κs. search needs) (λ c κs. search needs) narrow-requires
     shared-slice-read-if3 mark-requires shared-slice-read-if4 shared-slice-read-wide-2 wide-requires-2 back-requires show-order-requires
     (λ c. search needs) loop-again same-length returns)

@@ -1,18 +1,18 @@
 -- Laws of the test: a mask tried value by value, what a table allows, and the choices that the rows of a sheet match. Assumes nothing.
 use mathlib.Core.Path.{_∙_, _≡_, ap, refl, sym}
-use mathlib.Core.Bool.{Bool, _&&_, _||_, false, false≢true, not, true, true≢false}
+use mathlib.Core.Bool.{Bool, _||_, false, false≢true, not, true, true≢false}
 use mathlib.Core.Logic.{_⊎_, inl, inr}
 use mathlib.Core.List.{List}
 use Prim.Native.Nat.{_*_, _+_, _-_, _<_, _^_, _≤_, ℕ}
 use native.Mathlib.Nat.{lt-of-le-of-lt}
 use native.Mathlib.Omega.{arith}
-use lib.Bits.{and-le-l, bitAnd, bitOr, or-lt}
-use lib.Dec.{eqb, ltb}
+use lib.Bits.{and-le-l, bitAnd, or-lt}
+use lib.Dec.{ltb}
 use lib.ListN.{getD, length-replicate, replicate}
 use borrow.Author.Tests.{eq-eqb, lt-ltb, ltb-true, not-true}
 use Rattle.model.specs.Books.{matches}
 use Rattle.model.specs.Masks.{Cleared, bit}
-use Rattle.model.proofs.Masks.{bit-and, bit-below, bit-of-zero, bit-or, bit-pow, bit-pow-only, ones32, some-bit}
+use Rattle.model.proofs.Masks.{bit-and, bit-below, bit-of-zero, bit-or, ones32, some-bit}
 use Rattle.model.proofs.Tests.{and-i, and-l, and-r, or-e, or-l, or-r, positive, zeros-at}
 use Rattle.cells.specs.Cells.{SmallSets, fourOf}
 use Rattle.cells.proofs.Ones.{complement}

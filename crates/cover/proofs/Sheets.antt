@@ -1,5 +1,5 @@
 -- The sheet in the model's words: its choices are matched exactly when it is subsumed. Assumes nothing.
-use mathlib.Core.Path.{_∙_, _≡_, ap, sym}
+use mathlib.Core.Path.{_∙_, _≡_, sym}
 use mathlib.Core.Bool.{Bool, cond, false, false≢true, true}
 use mathlib.Core.Logic.{_⊎_, _↔_, inl, inr}
 use mathlib.Core.List.{List, []}
@@ -12,7 +12,7 @@ use Rattle.model.specs.Answers.{Subsumed, subsumed}
 use Rattle.model.specs.Books.{Sheet, allows, matches, rowMatches, sheetAt}
 use Rattle.model.specs.Choices.{Takes, pick}
 use Rattle.model.specs.Masks.{bit}
-use Rattle.model.specs.States.{ofSheet, validRow}
+use Rattle.model.specs.States.{validRow}
 use Rattle.model.specs.Stores.{IsStore, has}
 use Rattle.model.specs.Tests.{tab}
 use Rattle.model.proofs.Books.{allows-e, allows-i, matches-self}

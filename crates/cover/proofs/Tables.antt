@@ -1,28 +1,27 @@
 -- Laws of tables: slots, rows put in one by one, and a whole sheet word by word. Assumes nothing.
 use mathlib.Core.Path.{_∙_, _≡_, ap, refl, sym}
-use mathlib.Core.Bool.{Bool, _&&_, _||_, cond, false, false≢true, true}
+use mathlib.Core.Bool.{Bool, _&&_, _||_, false, false≢true, true}
 use mathlib.Core.Logic.{_⊎_, inl, inr}
 use mathlib.Core.List.{List}
 use Prim.Native.Nat.{_%_, _*_, _+_, _-_, _/_, _<_, _^_, _≤_, ℕ}
 use native.Mathlib.Omega.{arith}
 use lib.Bits.{bitOr, or-lt}
 use lib.Dec.{eqb, ltb}
-use lib.ListN.{getD, length, length-set, set}
+use lib.ListN.{getD, length-set, set}
 use lib.Seq.{getD-set-other, getD-set-same}
 use borrow.Author.Tests.{eq-eqb, eqb-true, le-ltb, lt-ltb, ltb-true, ne-eqb}
 use Rattle.fields.specs.Bytes.{byteAt}
 use Rattle.model.specs.Books.{isAny, matches}
-use Rattle.model.specs.Masks.{Cleared, bit}
+use Rattle.model.specs.Masks.{bit}
 use Rattle.model.specs.States.{ofSheet}
 use Rattle.model.proofs.Books.{matches-any, matches-plain, matches-self}
-use Rattle.model.proofs.Masks.{bit-below, bit-or, bit-pow, bit-pow-only}
-use Rattle.model.proofs.Tests.{and-i, and-l, and-r, below, either, or-e, or-l, or-r, same-test}
+use Rattle.model.proofs.Masks.{bit-or, bit-pow, bit-pow-only}
+use Rattle.model.proofs.Tests.{and-i, and-l, and-r, below, or-e, or-l, or-r, same-test}
 use Rattle.cells.specs.Cells.{IsCell, Kept, Readable, cellAt}
-use Rattle.cells.proofs.Collects.{passed, passed-end, passed-start, passed-turn}
 use Rattle.cells.proofs.Ones.{ones-bit}
-use Rattle.cells.proofs.Walks.{Part, part-cleared, split}
+use Rattle.cells.proofs.Walks.{split}
 use Rattle.words.specs.Sheets.{AtSheet, SheetWords, isSet, valueAt}
-use Rattle.words.proofs.Gathers.{at-position, set-cell, word-row}
+use Rattle.words.proofs.Gathers.{at-position, word-row}
 use Rattle.words.proofs.Indexes.{set-below}
 use Rattle.cover.specs.Covers.{IsTable, MatchedValues, RowPut, TableOf, Tabled, entryAt, setWith, slot}
 

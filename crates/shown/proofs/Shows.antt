@@ -8,7 +8,7 @@ use Prim.Native.Nat.{_*_, _<_, ℕ}
 use native.Mathlib.Omega.{arith}
 use lib.ListN.{getD}
 use Rattle.fields.specs.Bytes.{over}
-use Rattle.model.specs.Answers.{answer, answerBytes, finishOutcome, opening, outcome, outcomeMasks, outcomeNumber, showing, stateOnly}
+use Rattle.model.specs.Answers.{answer, answerBytes, finishOutcome, outcome, outcomeMasks, outcomeNumber, showing, stateOnly}
 use Rattle.model.specs.Books.{columnCount}
 use Rattle.model.specs.Orders.{Entry, depth, domains, kind, push}
 use Rattle.model.specs.Search.{searchSolution}

@@ -1,3 +1,3 @@
--- The laws behind status and done byte: counts of masks, both computed from masks, and the domains of a state.
+-- The laws behind status and done byte: masks and counts that are gathered place by place, and what a state says.
 pub mod Counts
 pub mod Status

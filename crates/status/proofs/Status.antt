@@ -13,9 +13,9 @@ use Rattle.model.specs.Books.{ConsistentStore, Sheet, columnCount, sheetAt}
 use Rattle.model.specs.Choices.{pick}
 use Rattle.model.specs.Masks.{bit, maskOf, size}
 use Rattle.model.specs.Orders.{Entry, allowed, domains}
-use Rattle.model.specs.States.{ofSheet, validRow, validWord}
+use Rattle.model.specs.States.{ofSheet, validWord}
 use Rattle.model.specs.Stores.{allFilled, emptyStore, has}
-use Rattle.model.specs.Tests.{allBelow, anyBelow, count}
+use Rattle.model.specs.Tests.{allBelow, anyBelow}
 use Rattle.model.proofs.Books.{closed-or-empty}
 use Rattle.model.proofs.Choices.{pick-same}
 use Rattle.model.proofs.Masks.{bit-of-zero, maskOf-same, size-zero, some-bit}

@@ -33,6 +33,7 @@ pub fn seeds(count: u64) -> Vec<Vec<u8>> {
         seeds.extend([0, 1].map(|value| last_short_row(rows, value)));
     }
     seeds.extend(done_sheets());
+    seeds.extend((0..7).map(last_rows_of_a_word));
     for seed in 0..count {
         let run = Run::new(seed);
         seeds.extend(both(&run.book, &run.orders));
@@ -136,6 +137,17 @@ fn done_sheets() -> Vec<Vec<u8>> {
         }
     }
     seeds
+}
+
+/// A narrow leaves the last four rows of this word of 64 and no other: the sheet is done by them alone.
+fn last_rows_of_a_word(word: usize) -> Vec<u8> {
+    let first = 64 * word + 60;
+    let row = |r: usize| match r.checked_sub(first) {
+        Some(n) => vec![n as u8 & 1, n as u8 >> 1, 0],
+        None => vec![0, 0, 1],
+    };
+    let book = one_sheet(&[2; 3], (0..first + 4).map(row).collect());
+    raw(MENDED, &write(&book), &narrow(2, 1))
 }
 
 /// A book of two columns of 32 values and a sheet of these rows, with these orders.

@@ -116,5 +116,5 @@ fn the_stack_of_a_run() {
     );
     assert!(check < 1_024 && opening.max(done) < 28_672);
     assert!(of_0 < of_8 && of_8 < of_16);
-    assert!(of_16.max(after_marks) < 40_960 + 4_096);
+    assert!(of_16.max(after_marks) < 43_008);
 }

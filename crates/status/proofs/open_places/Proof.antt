@@ -1,13 +1,12 @@
 use mathlib.Core.Logic.{⊎-elim}
-use mathlib.Core.Path.{_∙_, _≡_, ap, refl, sym}
-use Prim.Native.Nat.{_+_, _-_, _<_, _≤_, ℕ}
+use mathlib.Core.Path.{_∙_, _≡_, refl}
+use Prim.Native.Nat.{_-_, _<_, _≤_}
 use native.Mathlib.Omega.{arith}
-use native.Mathlib.Numerals.{add-one}
 use lib.ListN.{getD}
 use borrow.Author.Needs.{needs}
 use borrow.Author.Tests.{le-ltb, lt-ltb}
-use Rattle.model.specs.Tests.{count, oneIf, sum}
-use Rattle.model.proofs.Tallies.{count-last, count-most}
+use Rattle.model.specs.Tests.{count, sum}
+use Rattle.model.proofs.Tallies.{count-most}
 use Rattle.heads.specs.Heads.{columnOf, widthOf}
 use Rattle.words.proofs.Places.{column-below, eight, head-there, width-most}
 use Rattle.status.specs.Status.{isMany, openPlaces}

@@ -1,3 +1,4 @@
+use native.Mathlib.Omega.{arith}
 use borrow.Author.Needs.{needs}
 use Rattle.status.proofs.Status.{laid-sheets}
 use Rattle.shown.proofs.Shows.{answers-order}
@@ -8,7 +9,7 @@ told-after-requires : tie.Need-told-after-requires
 told-after-requires c κs = let s : tie.Start = search in let p = s .pre in (laid-sheets (p .0), p .1, p .6)
 
 show-requires : tie.Need-show-requires
-show-requires c κs = let s : tie.Start = search in let p = s .pre in (p .2, p .3, p .4, p .5)
+show-requires c κs = let s : tie.Start = search in let p = s .pre in (p .2, p .3, omega (arith, p .4), p .5)
 
 returns : tie.Need-returns
 returns c =

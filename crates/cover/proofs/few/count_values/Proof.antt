@@ -1,5 +1,5 @@
 use mathlib.Core.Path.{_≡_}
-use Prim.Native.Nat.{_-_, _≤_}
+use Prim.Native.Nat.{_-_, _<_, _≤_}
 use native.Mathlib.Omega.{arith}
 use borrow.Author.Needs.{needs}
 use Rattle.cover.specs.Covers.{SizesTo}
@@ -20,7 +20,8 @@ loop-again : tie.Need-loop-again Inv-loop μ-loop
 loop-again c =
     let start : tie.Start Inv-loop μ-loop = search in
     let turn : tie.In-loop Inv-loop μ-loop = search in
-    (sizes-more (start .pre .0) (turn .loop-test .taken) (turn .before .loop .inv .0), omega (arith, turn .loop-test .taken))
+    let l : turn .before .loop .c < 16 = omega (arith, turn .loop-test .taken) in
+    (sizes-more (start .pre .0) l (turn .before .loop .inv .0), omega (arith, turn .loop-test .taken))
 
 returns : tie.Need-returns Inv-loop μ-loop
 returns c =

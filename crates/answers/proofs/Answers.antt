@@ -1,22 +1,25 @@
 -- Laws of an answer written into a space. Assumes nothing.
-use mathlib.Core.Path.{_∙_, _≡_, refl, sym}
+use mathlib.Core.Path.{_∙_, _≡_, ap, refl, sym}
 use mathlib.Core.List.{List, [], _++_, _∷_}
 use Prim.Native.Nat.{_*_, _+_, _<_, _≤_, ℕ}
 use native.Mathlib.Numerals.{add-one}
 use native.Mathlib.Omega.{arith}
 use lib.ListN.{drop, getD, length, set}
-use Rattle.fields.specs.Bytes.{over, wordBytes}
+use Rattle.fields.specs.Bytes.{halfBytes, over, wordBytes}
 use Rattle.fields.proofs.Bytes.{over-all, over-next, over-none, over-over, stored}
 use Rattle.model.specs.Answers.{Answer, answerBytes, domainBytes}
 use Rattle.model.proofs.Answers.{answer-length, domainBytes-length}
 
--- the eight bytes before the masks
-pub head-stored : (xs : List ℕ) {refused status depth outcome done p q r t u : ℕ} → 8 ≤ length xs
+-- the eight bytes before the masks: six, and the tries
+pub head-stored : {out : List ℕ} (xs : List ℕ) {refused status depth outcome done p q r t u : ℕ} (tries : ℕ) → 8 ≤ length xs
     → p ≡ refused → q ≡ status → r ≡ depth → t ≡ outcome → u ≡ done
-    → set (set (set (set (set (set (set (set xs 0 p) 1 q) 2 r) 3 t) 4 u) 5 0) 6 0) 7 0
-    ≡ over xs 0 (refused ∷ status ∷ depth ∷ outcome ∷ done ∷ 0 ∷ 0 ∷ 0 ∷ [])
-head-stored xs {refused} {status} {depth} {outcome} {done} h e f g k l =
-    rw (e, f, g, k, l) (stored xs 0 (refused ∷ status ∷ depth ∷ outcome ∷ done ∷ 0 ∷ 0 ∷ 0 ∷ []) (omega arith))
+    → out ≡ over (set (set (set (set (set (set xs 0 p) 1 q) 2 r) 3 t) 4 u) 5 0) 6 (halfBytes tries)
+    → out ≡ over xs 0 (refused ∷ status ∷ depth ∷ outcome ∷ done ∷ 0 ∷ halfBytes tries)
+head-stored xs {refused} {status} {depth} {outcome} {done} tries h e f g k l s =
+    s
+    ∙ rw (e, f, g, k, l)
+    (ap (λ (w : List ℕ). over w 6 (halfBytes tries)) (stored xs 0 (refused ∷ status ∷ depth ∷ outcome ∷ done ∷ 0 ∷ []) (omega arith))
+    ∙ over-over xs 0 6 (refused ∷ status ∷ depth ∷ outcome ∷ done ∷ 0 ∷ []) (halfBytes tries) refl (omega arith))
 
 pub domains-none : (xs D : List ℕ) → xs ≡ over xs 8 (domainBytes D 0)
 unfolding domainBytes
@@ -32,12 +35,12 @@ domains-more {out} {next} xs D c at s l p q e =
 
 -- eight bytes and the masks: the whole answer
 pub whole : {head out : List ℕ} (xs : List ℕ) (a : Answer) → length xs ≡ 72
-    → head ≡ over xs 0 (a .refused ∷ a .status ∷ a .depth ∷ a .outcome ∷ a .done ∷ 0 ∷ 0 ∷ 0 ∷ []) → out ≡ over head 8 (domainBytes (a .shown) 16)
+    → head ≡ over xs 0 (a .refused ∷ a .status ∷ a .depth ∷ a .outcome ∷ a .done ∷ 0 ∷ halfBytes (a .tries)) → out ≡ over head 8 (domainBytes (a .shown) 16)
     → out ≡ answerBytes a
 unfolding answerBytes
 whole {head} {out} xs a s p q =
     rw (q, p)
-    (over-over xs 0 8 (a .refused ∷ a .status ∷ a .depth ∷ a .outcome ∷ a .done ∷ 0 ∷ 0 ∷ 0 ∷ []) (domainBytes (a .shown) 16) refl
+    (over-over xs 0 8 (a .refused ∷ a .status ∷ a .depth ∷ a .outcome ∷ a .done ∷ 0 ∷ halfBytes (a .tries)) (domainBytes (a .shown) 16) refl
     (omega (arith, domainBytes-length (a .shown) 16))
     ∙ over-all xs (answerBytes a) (answer-length a ∙ sym s))
 

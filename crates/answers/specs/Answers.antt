@@ -4,4 +4,4 @@ use Rattle.answers.specs.declared.Answer.{Answer as Held}
 
 abbrev pub answerIn : Held → Answer
 answerIn a =
-    record { refused = a .refused; status = a .status; depth = a .depth; outcome = a .outcome; done = a .done; shown = a .shown }
+    record { refused = a .refused; status = a .status; depth = a .depth; outcome = a .outcome; done = a .done; tries = a .tries; shown = a .shown }

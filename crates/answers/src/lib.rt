@@ -5,12 +5,13 @@
 //
 //     0          72         144             72 i       72 i + 72
 //     | answer 0 | answer 1 | ..            | answer i | untouched
+use fields::put_half;
 use fields::put_word;
 ghost use mathlib.Core.Path.{_≡_};
-ghost use mathlib.Core.List.{[], _∷_};
+ghost use mathlib.Core.List.{_∷_};
 ghost use Prim.Native.Nat.{_*_, _+_, _≤_};
 ghost use lib.ListN.{length};
-ghost use Rattle.fields.specs.Bytes.{over};
+ghost use Rattle.fields.specs.Bytes.{halfBytes, over};
 ghost use Rattle.model.specs.Answers.{answerBytes, domainBytes};
 ghost use Rattle.answers.specs.Answers.{answerIn};
 
@@ -21,6 +22,7 @@ pub struct Answer {
     pub depth: u8,
     pub outcome: u8,
     pub done: u8,
+    pub tries: u32,
     pub shown: [u32; 16],
 }
 
@@ -37,9 +39,9 @@ fn put_domains(out: &mut [u8], shown: &[u32; 16])
 }
 
 // The eight bytes before them.
-fn put_head(out: &mut [u8], refused: u8, status: u8, depth: u8, outcome: u8, done: u8)
+fn put_head(out: &mut [u8], refused: u8, status: u8, depth: u8, outcome: u8, done: u8, tries: u32)
     requires { ⌜ length (now out) ≡ 72 ⌝ }
-    ensures { λ r. ⌜ now (out .exit) ≡ over (now (out .entry)) 0 (refused ∷ status ∷ depth ∷ outcome ∷ done ∷ 0 ∷ 0 ∷ 0 ∷ []) ⌝ }
+    ensures { λ r. ⌜ now (out .exit) ≡ over (now (out .entry)) 0 (refused ∷ status ∷ depth ∷ outcome ∷ done ∷ 0 ∷ halfBytes tries) ⌝ }
 {
     out[0] = refused;
     out[1] = status;
@@ -47,8 +49,7 @@ fn put_head(out: &mut [u8], refused: u8, status: u8, depth: u8, outcome: u8, don
     out[3] = outcome;
     out[4] = done;
     out[5] = 0;
-    out[6] = 0;
-    out[7] = 0;
+    put_half(out, 6, tries);
 }
 
 // A whole answer.
@@ -56,7 +57,15 @@ fn put_answer(out: &mut [u8], a: Answer)
     requires { ⌜ length (now out) ≡ 72 ⌝ }
     ensures { λ r. ⌜ now (out .exit) ≡ answerBytes (answerIn a) ⌝ }
 {
-    put_head(out, a.refused, a.status, a.depth, a.outcome, a.done);
+    put_head(
+        out,
+        a.refused,
+        a.status,
+        a.depth,
+        a.outcome,
+        a.done,
+        a.tries,
+    );
     let shown = a.shown;
     put_domains(out, &shown);
 }

@@ -6,7 +6,7 @@ use native.Mathlib.Nat.{div-div-eq-div-mul, mod-eq-of-lt}
 use native.Mathlib.Omega.{arith}
 use lib.ListN.{drop, drop-of-length-le, length, length-append, set, take, take-append-drop}
 use lib.Seq.{drop-append-add, drop-drop, length-take-le, sets, sets-eq, take-at}
-use Rattle.fields.specs.Bytes.{byteAt, over, wordAt, wordBytes}
+use Rattle.fields.specs.Bytes.{byteAt, halfBytes, over, wordAt, wordBytes}
 
 -- ---- a number and its four bytes
 word-value : (x : ℕ) → x < 2 ^ 32 → x % 256 + x / 256 % 256 * 256 + x / 65536 % 256 * 65536 + x / 16777216 % 256 * 16777216 ≡ x
@@ -31,7 +31,12 @@ pub stored : (xs : List ℕ) (a : ℕ) (ys : List ℕ) → a + length ys ≤ len
 unfolding over
 stored xs a ys h = sets-eq ys xs a h ∙ append-assoc (take a xs) ys (drop (a + length ys) xs)
 
--- the four bytes of a number, stored one by one
+-- the two bytes of a number, stored one by one
+pub half-stored : (xs : List ℕ) (n x : ℕ) {p q : ℕ} → n + 2 ≤ length xs → p ≡ x % 256 → q ≡ x / 256 % 256
+    → set (set xs n p) (n + 1) q ≡ over xs n (halfBytes x)
+half-stored xs n x h e f = let one : n + 1 ≡ suc n = omega arith in rw (e, f, one) (stored xs n (halfBytes x) h)
+
+-- and four
 pub word-stored : (xs : List ℕ) (n x : ℕ) {p q r t : ℕ} → n + 4 ≤ length xs
     → p ≡ x % 256 → q ≡ x / 256 % 256 → r ≡ x / 65536 % 256 → t ≡ x / 16777216 % 256
     → set (set (set (set xs n p) (n + 1) q) (n + 2) r) (n + 3) t ≡ over xs n (wordBytes x)

@@ -18,6 +18,10 @@ halfAt b i = byteAt b i + byteAt b (i + 1) * 256
 abbrev pub wordAt : List ℕ → ℕ → ℕ
 wordAt b i = byteAt b i + byteAt b (i + 1) * 256 + byteAt b (i + 2) * 65536 + byteAt b (i + 3) * 16777216
 
+-- a number of 16 bits as its two bytes
+abbrev pub halfBytes : ℕ → List ℕ
+halfBytes x = x % 256 ∷ x / 256 % 256 ∷ []
+
 -- a number of 32 bits as its four bytes
 abbrev pub wordBytes : ℕ → List ℕ
 wordBytes x = x % 256 ∷ x / 256 % 256 ∷ x / 65536 % 256 ∷ x / 16777216 % 256 ∷ []

@@ -4,7 +4,7 @@
 ghost use mathlib.Core.Path.{_≡_};
 ghost use Prim.Native.Nat.{_+_, _*_, _<_, _≤_};
 ghost use lib.ListN.{length};
-ghost use Rattle.fields.specs.Bytes.{halfAt, over, wordAt, wordBytes};
+ghost use Rattle.fields.specs.Bytes.{halfAt, halfBytes, over, wordAt, wordBytes};
 
 // ---- reading
 
@@ -46,6 +46,15 @@ pub fn word_at(b: &[u8], i: usize) -> u32
 }
 
 // ---- writing
+
+// A number of 16 bits as two bytes, from byte i on.
+pub fn put_half(out: &mut [u8], i: usize, n: u32)
+    requires { ⌜ i + 2 ≤ length (now out) ⌝ }
+    ensures { λ r. ⌜ now (out .exit) ≡ over (now (out .entry)) i (halfBytes n) ⌝ }
+{
+    out[i] = (n % 256) as u8;
+    out[i + 1] = (n / 256 % 256) as u8;
+}
 
 // A number of 32 bits as four bytes, from byte i on.
 pub fn put_word(out: &mut [u8], i: usize, x: u32)

@@ -5,18 +5,17 @@ use Rattle.model.specs.Tests.{allBelow, anyBelow, allIn, anyIn, sum, cou
 use Rattle.model.specs.Masks.{bit, maskOf}
 use Rattle.model.specs.Stores.{has, storeOf, emptyStore, allFilled, values}
 use Rattle.model.specs.Closure.{strike, rounds, closureOf}
-use Rattle.model.specs.Choices.{firstOf, firstChoice, anyChoice}
+use Rattle.model.specs.Choices.{anyChoice}
 use Rattle.model.specs.Books.{inDomain, rowMatches, allows, supports, supportedIn, supported, closure}
-use Rattle.model.specs.Solutions.{formsRows, firstSolution}
-use Rattle.model.specs.Search.{openColumn, valueOf, searchFrom, searchSolution}
+use Rattle.model.specs.Search.{openColumn, valueOf, tryEach, searchFrom, searched}
 use Rattle.model.specs.Orders.{wrongPlace, someWrong, depth, before, firstCause, outside, refusal, push, trailFrom, permits, allowed, domains}
 use Rattle.model.specs.Answers.{assigned, statusOf, subsumed, doneOf, outcome, showing, answer, answersFrom, lastFrom, acceptedFrom, domainBytes, answerBytes}
 use Rattle.model.specs.WrittenOut.{writtenCell, writtenRow, writtenSheet, writtenOut}
-use Rattle.model.specs.Acceptance.{TenFacts, SevenLines, SearchFacts, RefusalFacts, ByteFacts, WrittenOutFacts, DoneFacts, MayDiffer}
+use Rattle.model.specs.Acceptance.{TenFacts, SevenLines, SearchFacts, TriesFacts, RefusalFacts, ByteFacts, WrittenOutFacts, DoneFacts, MayDiffer}
 
 -- opens every definition that an example computes with
 unfoldable pub computing : Unit {0}
-unfolding lowest allBelow anyBelow allIn anyIn sum count eqList tab bit maskOf has storeOf emptyStore allFilled values strike rounds closureOf firstOf firstChoice anyChoice inDomain rowMatches allows supports supportedIn supported closure formsRows firstSolution wrongPlace someWrong depth before firstCause outside refusal push trailFrom permits allowed domains assigned statusOf subsumed doneOf outcome showing answer answersFrom lastFrom acceptedFrom answerBytes openColumn valueOf searchFrom searchSolution
+unfolding lowest allBelow anyBelow allIn anyIn sum count eqList tab bit maskOf has storeOf emptyStore allFilled values strike rounds closureOf anyChoice inDomain rowMatches allows supports supportedIn supported closure wrongPlace someWrong depth before firstCause outside refusal push trailFrom permits allowed domains assigned statusOf subsumed doneOf outcome showing answer answersFrom lastFrom acceptedFrom answerBytes openColumn valueOf tryEach searchFrom searched
 computing = tt
 
 pub tenFacts : TenFacts
@@ -41,7 +40,23 @@ sevenLines = record { lines = refl; accepted = refl }
 
 pub searchFacts : SearchFacts
 unfolding computing
-searchFacts = record { k6 = refl; k7 = refl; lowest-column = refl }
+searchFacts = record { k6 = refl; k7 = refl; lowest-column = refl; dead-first = refl }
+
+pub triesFacts : TriesFacts
+unfolding computing
+triesFacts =
+    record {
+      stopped-at-1 = refl;
+      found-at-2 = refl;
+      found-at-3 = refl;
+      k7-stopped = refl;
+      k7-none = refl;
+      failed = refl;
+      decided = refl;
+      limit-0 = refl;
+      limit-1 = refl;
+      limit-65535 = refl;
+    }
 
 pub refusalFacts : RefusalFacts
 unfolding computing
@@ -67,15 +82,20 @@ refusalFacts =
       back-above = refl;
       back-depth = refl;
       finish-argument = refl;
+      finish-byte-2 = refl;
+      finish-byte-3 = refl;
       finish-last-byte = refl;
+      finish-65536 = refl;
+      finish-65535 = refl;
       finish-refused = refl;
+      finish-too-large = refl;
       kind-0 = refl;
       kind-7 = refl;
     }
 
 pub byteFacts : ByteFacts
 unfolding computing domainBytes
-byteFacts = record { narrow-bytes = refl; finish-bytes = refl }
+byteFacts = record { narrow-bytes = refl; finish-bytes = refl; tries-bytes = refl }
 
 pub writtenOutFacts : WrittenOutFacts
 unfolding tab flatMap writtenCell writtenRow writtenSheet writtenOut

@@ -2,7 +2,6 @@
 use mathlib.Core.Path.{_≡_, refl, sym, ap, ap₂, _∙_}
 use mathlib.Core.Bool.{true, false}
 use mathlib.Core.Logic.{_⊎_, inl, inr}
-use mathlib.Core.Option.{none, some}
 use mathlib.Core.List.{List, [], _∷_, _++_, map}
 use Prim.Native.Nat.{ℕ, zero, suc, _+_, _*_, _-_, _^_, _≤_, _<_}
 use native.Mathlib.Nat.{le-of-suc-le-suc}
@@ -12,25 +11,24 @@ use lib.ListN.{List·getD-append, getD, length, length-append}
 use lib.Pow.{pow-lt}
 use lib.Seq.{getD-append-add}
 use borrow.Author.Tests.{eqb-true, eqb-false}
-use Rattle.fields.specs.Bytes.{byteAt, wordBytes}
+use Rattle.fields.specs.Bytes.{byteAt, halfAt, halfBytes, wordBytes}
 use Rattle.fields.proofs.Bytes.{word-back}
 use Rattle.model.specs.Tests.{tab}
-use Rattle.model.specs.Stores.{IsStore}
-use Rattle.model.specs.Books.{Book, columnCount}
-use Rattle.model.specs.Solutions.{Solution, firstSolution}
-use Rattle.model.specs.Orders.{kind, Entry, depth as depthOf, refusal, AcceptedFinish, push, trailFrom, domains}
-use Rattle.model.specs.Answers.{statusOf, doneOf, Answer, Outcome, stateOnly, outcomeMasks, finishOutcome, outcome, showing, answer, lastFrom, domainBytes, answerBytes, domainIn}
+use Rattle.model.specs.Books.{Book, columnCount, WellFormed}
+use Rattle.model.specs.Solutions.{Solution}
+use Rattle.model.specs.Search.{searched}
+use Rattle.model.specs.Orders.{kind, tryLimit, Entry, depth as depthOf, refusal, AcceptedFinish, push, trailFrom, domains}
+use Rattle.model.specs.Answers.{statusOf, doneOf, Answer, Outcome, stateOnly, outcomeMasks, limited, outcome, showing, answer, lastFrom, domainBytes, answerBytes, domainIn}
 use Rattle.model.proofs.Tests.{below, either, getD-tab, getD-tab-out}
 use Rattle.model.proofs.Stores.{in-store}
-use Rattle.model.proofs.Choices.{opt}
-use Rattle.model.proofs.Solutions.{found-iff}
-use Rattle.model.proofs.Search.{getD-map}
-use Rattle.model.proofs.Trails.{domains-store}
-use Rattle.model.proofs.Refusals.{push-finish}
+use Rattle.model.proofs.Search.{getD-map, searched-found}
+use Rattle.model.proofs.Outcomes.{LimitedTo, is-found, is-none, is-stopped, limited-or, limited-tries}
+use Rattle.model.proofs.Trails.{domains-closed, domains-store}
+use Rattle.model.proofs.Refusals.{accepted-finish, push-finish}
 
 -- ---- what an order shows
 -- what an accepted finish shows, and any other order
-pub outcome-finish : (b : Book) (L : List Entry) (o : List ℕ) → AcceptedFinish b L o → outcome b L o ≡ finishOutcome (firstSolution b (domains b L))
+pub outcome-finish : (b : Book) (L : List Entry) (o : List ℕ) → AcceptedFinish b L o → outcome b L o ≡ limited (tryLimit o) (searched b (domains b L))
 unfolding outcome
 outcome-finish b L o f = rw (f .accepted, f .of-kind)
 
@@ -61,7 +59,7 @@ finish-or b L o = go (either (eqb (kind o) 4)) (either (eqb (refusal b L o) 0))
 
 -- the answer to each
 pub answer-finish : (b : Book) (L : List Entry) (o : List ℕ) → AcceptedFinish b L o
-    → answer b L o ≡ showing b L 0 (finishOutcome (firstSolution b (domains b L)))
+    → answer b L o ≡ showing b L 0 (limited (tryLimit o) (searched b (domains b L)))
 unfolding answer
 answer-finish b L o f = rw (outcome-finish b L o f, push-finish b L o (f .of-kind), f .accepted)
 
@@ -100,35 +98,55 @@ map-out f [] i h = refl
 map-out f (x ∷ xs) zero h = absurd (omega arith)
 map-out f (x ∷ xs) (suc i) h = map-out f xs i (le-of-suc-le-suc h)
 
-masks-small : (b : Book) (D : List ℕ) → IsStore (columnCount b) D → (c : ℕ) → getD (outcomeMasks (columnCount b) D (finishOutcome (firstSolution b D))) c 0 < 2 ^ 32
-masks-small b D d c = go (opt (firstSolution b D))
-  where
-    zero-small : _<_ 0 (2 ^ 32)
-    zero-small = omega arith
+module _ (b : Book) (p : WellFormed b) (L : List Entry) where
+  abbrev D : List ℕ
+  D = domains b L
 
-    none-small : getD (tab (columnCount b) (λ c. 0)) c 0 < 2 ^ 32
-    none-small = at (below c (columnCount b))
-      where
-        at : (c < columnCount b) ⊎ (columnCount b ≤ c) → getD (tab (columnCount b) (λ c. 0)) c 0 < 2 ^ 32
-        at (inl l) = rw (getD-tab {A = ℕ} 0 (columnCount b) (λ c. 0) c l) zero-small
-        at (inr l) = rw (getD-tab-out (columnCount b) (λ c. 0) c l) zero-small
+  abbrev C : ℕ
+  C = columnCount b
 
-    some-small : (x : List ℕ) → Solution b D x → (c < length x) ⊎ (length x ≤ c) → getD (map (λ v. 2 ^ v) x) c 0 < 2 ^ 32
-    some-small x f (inl l) =
-        rw (getD-map (λ v. 2 ^ v) x c l) (pow-lt (in-store (columnCount b) D d c (getD x c 0) (f .takes c (rw (f .size) at l)) .1))
-    some-small x f (inr l) = rw (map-out (λ v. 2 ^ v) x c l) zero-small
+  masks-small : (n c : ℕ) → getD (outcomeMasks (columnCount b) (domains b L) (limited n (searched b (domains b L)))) c 0 < 2 ^ 32
+  masks-small n c = go (limited-or n (searched b D))
+    where
+      zero-small : _<_ 0 (2 ^ 32)
+      zero-small = omega arith
 
-    go : (firstSolution b D ≡ none) ⊎ ((x : List ℕ) × (firstSolution b D ≡ some x)) → getD (outcomeMasks (columnCount b) D (finishOutcome (firstSolution b D))) c 0 < 2 ^ 32
-    go (inl e) = rw e (none-small)
-    go (inr q) = rw (q .1) (some-small (q .0) (found-iff b D d (q .0) .0 (q .1) .solution) (below c (length (q .0))))
+      none-small : getD (tab C (λ c. 0)) c 0 < 2 ^ 32
+      none-small = at (below c C)
+        where
+          at : (c < C) ⊎ (C ≤ c) → getD (tab C (λ c. 0)) c 0 < 2 ^ 32
+          at (inl l) = rw (getD-tab {A = ℕ} 0 C (λ c. 0) c l) zero-small
+          at (inr l) = rw (getD-tab-out C (λ c. 0) c l) zero-small
 
-pub shown-small : (b : Book) (L : List Entry) (o : List ℕ) (c : ℕ) → getD ((answer b L o) .shown) c 0 < 2 ^ 32
+      some-small : (x : List ℕ) → Solution b D x → (c < length x) ⊎ (length x ≤ c) → getD (map (λ v. 2 ^ v) x) c 0 < 2 ^ 32
+      some-small x f (inl l) =
+          rw (getD-map (λ v. 2 ^ v) x c l) (pow-lt (in-store C D (domains-store b L) c (getD x c 0) (f .takes c (rw (f .size) at l)) .1))
+      some-small x f (inr l) = rw (map-out (λ v. 2 ^ v) x c l) zero-small
+
+      go : LimitedTo n (searched b D) → getD (outcomeMasks C D (limited n (searched b D))) c 0 < 2 ^ 32
+      go (is-found x t e s l) =
+          rw e (some-small x (searched-found b p D (domains-store b L) (domains-closed b L) x .0 s .solution) (below c (length x)))
+      go (is-none t e s l) = rw e none-small
+      go (is-stopped e l) = rw e none-small
+
+  pub shown-small : (o : List ℕ) (c : ℕ) → getD ((answer b L o) .shown) c 0 < 2 ^ 32
+  unfolding showing
+  shown-small o c = go (finish-or b L o)
+    where
+      go : AcceptedFinish b L o ⊎ (AcceptedFinish b L o → ⊥) → getD ((answer b L o) .shown) c 0 < 2 ^ 32
+      go (inl f) = rw (answer-finish b L o f) (masks-small (tryLimit o) c)
+      go (inr n) = rw (answer-other b L o n) (domains-store b (push b L o) .bits c)
+
+-- the tries made fit two bytes
+pub tries-small : (b : Book) (L : List Entry) (o : List ℕ) → (answer b L o) .tries < 65536
 unfolding showing
-shown-small b L o c = go (finish-or b L o)
+tries-small b L o = go (finish-or b L o)
   where
-    go : AcceptedFinish b L o ⊎ (AcceptedFinish b L o → ⊥) → getD ((answer b L o) .shown) c 0 < 2 ^ 32
-    go (inl f) = rw (answer-finish b L o f) (masks-small b (domains b L) (domains-store b L) c)
-    go (inr n) = rw (answer-other b L o n) (domains-store b (push b L o) .bits c)
+    go : AcceptedFinish b L o ⊎ (AcceptedFinish b L o → ⊥) → (answer b L o) .tries < 65536
+    go (inl f) =
+        rw (answer-finish b L o f)
+        (omega (arith, limited-tries (tryLimit o) (searched b (domains b L)), accepted-finish b L o (f .of-kind) (f .accepted)))
+    go (inr n) = rw (answer-other b L o n) (omega arith)
 
 -- ---- the 72 bytes
 -- the bytes before the domains
@@ -152,19 +170,22 @@ pub bytes-4 : (a : Answer) → byteAt (answerBytes a) 4 ≡ a .done
 unfolding answerBytes
 bytes-4 a = refl
 
-pub bytes-zero : (a : Answer) (i : ℕ) → 5 ≤ i → i ≤ 7 → byteAt (answerBytes a) i ≡ 0
+pub bytes-5 : (a : Answer) → byteAt (answerBytes a) 5 ≡ 0
 unfolding answerBytes
-bytes-zero a i p q =
-    let e : i ≡ suc (suc (suc (suc (suc (i - 5))))) = omega arith in
-    ap (λ (j : ℕ). byteAt (answerBytes a) j) e ∙ at (i - 5) (omega arith)
-  where
-    at : (k : ℕ) → k ≤ 2 → getD (0 ∷ 0 ∷ 0 ∷ domainBytes (a .shown) 16) k 0 ≡ 0
-    at zero l = refl
-    at (suc zero) l = refl
-    at (suc (suc zero)) l = refl
-    at (suc (suc (suc k))) l = absurd (omega arith)
+bytes-5 a = refl
 
--- bytes 8 on are the domains shown
+-- bytes 6 and 7 are the tries
+pub bytes-6-7 : (a : Answer) → a .tries < 65536 → halfAt (answerBytes a) 6 ≡ a .tries
+unfolding answerBytes
+bytes-6-7 a l = omega arith
+
+-- bytes 6 on are the tries and the domains shown
+pub bytes-6-on : (a : Answer) (i : ℕ) → 6 ≤ i → byteAt (answerBytes a) i ≡ getD (halfBytes (a .tries) ++ domainBytes (a .shown) 16) (i - 6) 0
+unfolding answerBytes
+bytes-6-on a i p =
+    let e : i ≡ suc (suc (suc (suc (suc (suc (i - 6)))))) = omega arith in
+    ap (λ (j : ℕ). byteAt (answerBytes a) j) e
+
 pub bytes-8-on : (a : Answer) (i : ℕ) → 8 ≤ i → byteAt (answerBytes a) i ≡ getD (domainBytes (a .shown) 16) (i - 8) 0
 unfolding answerBytes
 bytes-8-on a i p =

@@ -11,11 +11,32 @@ use lib.ListN.{length, getD, length-map, List·getD-eq-default}
 use borrow.Author.Tests.{not-true}
 use Rattle.model.specs.Masks.{bit}
 use Rattle.model.specs.Stores.{has, Within}
-use Rattle.model.specs.Choices.{pick, Takes, Lower, First, firstOf, lead, firstChoice, anyChoice, everyChoice}
+use Rattle.model.specs.Choices.{pick, Takes, Lower, anyChoice, everyChoice}
 use Rattle.model.proofs.Tests.{either, same-test, anyBelow-e, anyBelow-i, below}
 use Rattle.model.proofs.Masks.{bit-of-zero, bit-below}
 
 -- ---- the first choice of one value from each domain that passes a test: lowest by column 0, then column 1, and so on
+-- x is a choice from B that passes, and no other that passes is lower
+pub record First (B : List ℕ) (p : List ℕ → Bool) (x : List ℕ) : Type 0 where
+  pub takes : Takes B x
+  pub passes : p x ≡ true
+  pub least : (y : List ℕ) → Takes B y → p y ≡ true → (x ≡ y) ⊎ Lower x y
+
+-- the first of f 0, f 1, .. , f (n - 1) that is there
+unfoldable pub firstOf : ℕ → (ℕ → Option (List ℕ)) → Option (List ℕ)
+firstOf zero f = none
+firstOf (suc n) f = elim (f 0) [ none ↦ firstOf n (λ v. f (suc v)) | some x ↦ some x ]
+
+-- v in front of a choice for the rest
+abbrev pub lead : ℕ → Option (List ℕ) → Option (List ℕ)
+lead v none = none
+lead v (some x) = some (v ∷ x)
+
+-- "lowest by column 0, then column 1, and so on": the values of the first column in rising order, and for each the first choice of the rest
+unfoldable pub firstChoice : List ℕ → (List ℕ → Bool) → Option (List ℕ)
+firstChoice [] p = cond (p []) (some []) none
+firstChoice (m ∷ B) p = firstOf 32 (λ v. elim (bit v m) [ true ↦ lead v (firstChoice B (λ x. p (v ∷ x))) | false ↦ none ])
+
 -- ---- laws
 pub opt : (o : Option (List ℕ)) → (o ≡ none) ⊎ ((x : List ℕ) × (o ≡ some x))
 opt none = inl refl
@@ -59,28 +80,6 @@ firstOf-some (suc n) f x e = go (opt (f 0)) (firstOf-some n (λ v. f (suc v)) x)
     go (inr q) r =
         let k : firstOf (suc n) f ≡ some (q .0) = rw (q .1, firstOf) in
         record { value = 0; inside = zero-lt-suc n; found = q .1 ∙ sym k ∙ e; before = λ u l. absurd (not-suc-le-zero l) }
-
--- the other way round
-pub firstOf-i : (n : ℕ) (f : ℕ → Option (List ℕ)) (x : List ℕ) → FirstOf n f x → firstOf n f ≡ some x
-firstOf-i n f x h = go (opt (firstOf n f))
-  where
-    same : (y : List ℕ) (g : FirstOf n f y) → (h .value < g .value) ⊎ (g .value ≤ h .value) → (g .value < h .value) ⊎ (h .value ≤ g .value) → some y ≡ some x
-    same y g (inl a) r = absurd (never (g .before (h .value) a) (h .found))
-    same y g (inr a) (inl r) = absurd (never (h .before (g .value) r) (g .found))
-    same y g (inr a) (inr r) = let e : g .value ≡ h .value = omega arith in sym (g .found) ∙ ap f e ∙ h .found
-
-    go : (firstOf n f ≡ none) ⊎ ((y : List ℕ) × (firstOf n f ≡ some y)) → firstOf n f ≡ some x
-    go (inl e) = absurd (never (firstOf-none n f e (h .value) (h .inside)) (h .found))
-    go (inr q) =
-        let g = firstOf-some n f (q .0) (q .1) in
-        q .1 ∙ same (q .0) g (below (h .value) (g .value)) (below (g .value) (h .value))
-
-pub firstOf-no : (n : ℕ) (f : ℕ → Option (List ℕ)) → ((v : ℕ) → v < n → f v ≡ none) → firstOf n f ≡ none
-firstOf-no n f h = go (opt (firstOf n f))
-  where
-    go : (firstOf n f ≡ none) ⊎ ((y : List ℕ) × (firstOf n f ≡ some y)) → firstOf n f ≡ none
-    go (inl e) = e
-    go (inr q) = let g = firstOf-some n f (q .0) (q .1) in absurd (never (h (g .value) (g .inside)) (g .found))
 
 pub firstOf-same : (n : ℕ) (f g : ℕ → Option (List ℕ)) → ((v : ℕ) → v < n → f v ≡ g v) → firstOf n f ≡ firstOf n g
 unfolding firstOf
@@ -210,7 +209,7 @@ first-found (m ∷ B) h p x e = go (firstOf-some 32 (step m B p) x e) (λ q y r.
             subst⁻¹ (First (m ∷ B) p) (r .2) (first-cons m B h p (f .value) (r .0) q (ih _ (r .0) (r .1)) (f .before))
 
 -- two lists of one length are equal, or one of them is lower, and not both
-lower-not : (x y : List ℕ) → Lower x y → Lower y x → ⊥
+pub lower-not : (x y : List ℕ) → Lower x y → Lower y x → ⊥
 lower-not x y a b = go (below (a .column) (b .column)) (below (b .column) (a .column))
   where
     go : (a .column < b .column) ⊎ (b .column ≤ a .column) → (b .column < a .column) ⊎ (a .column ≤ b .column) → ⊥
@@ -246,19 +245,6 @@ module _ (B : List ℕ) (h : Small B) (p : List ℕ → Bool) where
       from : (firstChoice B p ≡ none) ⊎ ((y : List ℕ) × (firstChoice B p ≡ some y)) → ((x : List ℕ) → Takes B x → p x ≡ true → ⊥) → firstChoice B p ≡ none
       from (inl e) n = e
       from (inr q) n = let f = first-found B h p (q .0) (q .1) in absurd (n (q .0) (f .takes) (f .passes))
-
--- two tests that agree on every choice find the same
-pub firstChoice-same : (B : List ℕ) (p q : List ℕ → Bool) → ((x : List ℕ) → Takes B x → p x ≡ q x) → firstChoice B p ≡ firstChoice B q
-unfolding firstChoice
-firstChoice-same [] p q h = ap (λ (t : Bool). cond t (some []) none) (h [] takes-nil)
-firstChoice-same (m ∷ B) p q h =
-    firstOf-same 32 (step m B p) (step m B q)
-    (λ v l. go v (λ e. firstChoice-same B (λ x. p (v ∷ x)) (λ x. q (v ∷ x)) (λ x t. h (v ∷ x) (takes-cons e t))) (either (bit v m)))
-  where
-    go : (v : ℕ) → (bit v m ≡ true → firstChoice B (λ x. p (v ∷ x)) ≡ firstChoice B (λ x. q (v ∷ x))) → (bit v m ≡ true) ⊎ (bit v m ≡ false)
-        → step m B p v ≡ step m B q v
-    go v r (inl e) = step-yes m B p v e ∙ ap (lead v) (r e) ∙ sym (step-yes m B q v e)
-    go v r (inr e) = step-no m B p v e ∙ sym (step-no m B q v e)
 
 -- ---- some choice passes
 abbrev also : ℕ → List ℕ → (List ℕ → Bool) → ℕ → Bool

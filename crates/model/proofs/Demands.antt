@@ -2,31 +2,33 @@
 use mathlib.Core.Path.{_≡_, refl, sym, ap, ap₂, _∙_, subst}
 use mathlib.Core.Bool.{Bool, true, false, cond, not, _&&_, _||_, false≢true, true≢false}
 use mathlib.Core.Logic.{_⊎_, inl, inr, _↔_}
-use mathlib.Core.Option.{Option, none, some}
-use mathlib.Core.List.{List, [], _∷_, _++_}
-use Prim.Native.Nat.{ℕ, suc, _+_, _-_, _≤_, _<_}
+use mathlib.Core.Option.{none, some}
+use mathlib.Core.List.{List, [], _∷_, _++_, map}
+use Prim.Native.Nat.{ℕ, suc, _+_, _-_, _^_, _≤_, _<_}
 use native.Mathlib.Omega.{arith}
 use lib.Dec.{eqb, leb}
 use lib.ListN.{getD, length}
-use borrow.Author.Tests.{eq-eqb, lt-leb}
-use Rattle.model.specs.Tests.{oneIf}
-use Rattle.model.specs.Masks.{bit, maskOf}
-use Rattle.model.specs.Stores.{has, IsStore, Within, emptyStore, allFilled}
+use borrow.Author.Tests.{eq-eqb, le-ltb, lt-leb}
+use Rattle.fields.specs.Bytes.{halfBytes}
+use Rattle.model.specs.Tests.{allBelow, oneIf}
+use Rattle.model.specs.Masks.{bit, maskOf, size}
+use Rattle.model.specs.Stores.{has, Within, emptyStore, allFilled}
 use Rattle.model.specs.Choices.{Lower}
 use Rattle.model.specs.Books.{Book, columnCount, sheetAt, WellFormed, ConsistentStore, Stays, Fails, closure}
-use Rattle.model.specs.Solutions.{Solution, FirstSolution, firstSolution}
-use Rattle.model.specs.Orders.{kind, argument, mask, zeroPlaces, someWrong, Entry, narrowed, checkpoint, depth as depthOf, firstCause, outside, refusal, AcceptedFinish, push, allowed, domains}
-use Rattle.model.specs.Answers.{assigned, statusOf, Subsumed, subsumed, doneOf, stateOnly, outcomeNumber, outcomeMasks, finishOutcome, outcome, showing, answer, answersFrom, acceptedFrom, domainBytes, answerBytes}
-use Rattle.model.specs.Demands.{ChangesNothing, unrefused, unmasked, Demand2, ShowsState, ShowsFinish, EveryAnswer, DoneExactly, SameAllowed, SameFinish, Claim1, Claim2}
-use Rattle.model.proofs.Tests.{and-false, either}
+use Rattle.model.specs.Solutions.{FirstSolution}
+use Rattle.model.specs.Search.{openColumn, Searched, searched}
+use Rattle.model.specs.Orders.{kind, argument, mask, tryLimit, zeroPlaces, someWrong, Entry, narrowed, checkpoint, depth as depthOf, firstCause, outside, refusal, AcceptedFinish, push, allowed, domains}
+use Rattle.model.specs.Answers.{assigned, statusOf, Subsumed, subsumed, doneOf, Outcome, stateOnly, found, notFound, stopped, outcomeNumber, outcomeTries, outcomeMasks, limited, outcome, showing, answer, answersFrom, acceptedFrom, domainBytes, answerBytes}
+use Rattle.model.specs.Demands.{ChangesNothing, unrefused, unmasked, Demand2, ShowsState, ShowsFinish, EveryAnswer, DoneExactly, SameAllowed, SameFinish, finishing, Claim1, Claim2, ClaimTries}
+use Rattle.model.proofs.Tests.{allBelow-e, and-false, either}
 use Rattle.model.proofs.Masks.{bit-maskOf, bit-maskOf-out, bit-of-zero}
-use Rattle.model.proofs.Stores.{store-ext, empty-has, filled-e, filled-i}
-use Rattle.model.proofs.Choices.{opt}
+use Rattle.model.proofs.Stores.{store-ext, empty-unfilled, filled-i}
 use Rattle.model.proofs.Books.{stays-iff, fails-iff, closed-or-empty}
-use Rattle.model.proofs.Solutions.{found-iff, none-iff, has-first, solution-mono, first-wider}
-use Rattle.model.proofs.Search.{search-first}
+use Rattle.model.proofs.Solutions.{has-first, first-only, solution-mono, first-wider}
+use Rattle.model.proofs.Search.{open-none, searched-empty, searched-found, searched-none, searched-open, searched-single}
+use Rattle.model.proofs.Outcomes.{LimitedTo, is-found, is-none, is-stopped, limited-enough, limited-larger, limited-or}
 use Rattle.model.proofs.Trails.{allowed-store, domains-store, domains-closed, domains-mono, narrowed-e}
-use Rattle.model.proofs.Answers.{answer-finish, answer-other, answer-refused, bytes-0, bytes-8-on}
+use Rattle.model.proofs.Answers.{answer-finish, answer-other, answer-refused, bytes-0, bytes-6-on}
 use Rattle.model.proofs.Subsumptions.{subsumed-iff}
 use Rattle.model.proofs.Refusals.{refusal-depth, outside-none, refusal-narrow, accepted-narrow, push-refused, push-narrow}
 
@@ -75,14 +77,6 @@ claim1 b =
     }
 
 -- ---- demand 2
--- no column of the empty store is filled
-empty-unfilled : (C : ℕ) → 0 < C → allFilled C (emptyStore C) ≡ false
-empty-unfilled C pos = go (either (allFilled C (emptyStore C)))
-  where
-    go : (allFilled C (emptyStore C) ≡ true) ⊎ (allFilled C (emptyStore C) ≡ false) → allFilled C (emptyStore C) ≡ false
-    go (inl e) = let r = filled-e C (emptyStore C) e 0 pos in absurd (empty-has C 0 (r .0) (r .1))
-    go (inr e) = e
-
 -- status 0: some column is empty
 status-0-e : (b : Book) (D : List ℕ) → statusOf b D ≡ 0 → allFilled (columnCount b) D ≡ false
 unfolding statusOf
@@ -93,6 +87,18 @@ status-0-e b D e = go (either (allFilled (columnCount b) D)) (either (assigned b
     go (inr q) r = q
     go (inl p) (inl r) = let z : _≡_ {A = ℕ} 2 0 = rw (p, r) at e in absurd (omega arith)
     go (inl p) (inr r) = let z : _≡_ {A = ℕ} 1 0 = rw (p, r) at e in absurd (omega arith)
+
+-- status 2: each column holds one value
+status-2-e : (b : Book) (D : List ℕ) → statusOf b D ≡ 2
+    → (allFilled (columnCount b) D ≡ true) × (allBelow (columnCount b) (λ c. eqb (size (getD D c 0)) 1) ≡ true)
+unfolding statusOf assigned
+status-2-e b D e = go (either (allFilled (columnCount b) D)) (either (assigned b D))
+  where
+    go : (allFilled (columnCount b) D ≡ true) ⊎ (allFilled (columnCount b) D ≡ false) → (assigned b D ≡ true) ⊎ (assigned b D ≡ false)
+        → (allFilled (columnCount b) D ≡ true) × (assigned b D ≡ true)
+    go (inl p) (inl r) = (p, r)
+    go (inl p) (inr r) = let z : _≡_ {A = ℕ} 1 2 = rw (p, r) at e in absurd (omega arith)
+    go (inr p) r = let z : _≡_ {A = ℕ} 0 2 = rw p at e in absurd (omega arith)
 
 status-0-i : (b : Book) (D : List ℕ) → allFilled (columnCount b) D ≡ false → statusOf b D ≡ 0
 unfolding statusOf
@@ -130,57 +136,87 @@ module _ (b : Book) (p : WellFormed b) (L : List Entry) where
         stays = stays-in-domains;
         failed = failed-status-iff;
         empty = domains-empty-iff;
-        found = found-iff b (domains b L) (domains-store b L);
-        not-found = none-iff b (domains b L) (domains-store b L);
-        failed-finish = λ f.
-            none-iff b (domains b L) (domains-store b L) .1
-            (record {
-              none = λ x g.
-                  empty-has (columnCount b) 0 (getD x 0 0)
-                  (subst (λ (D : List ℕ). has D 0 (getD x 0 0) ≡ true) (domains-empty-iff .1 f) (g .takes 0 (p .some-column)));
-            });
-        searched = search-first b p (domains b L) (domains-store b L) (domains-closed b L);
+        found = searched-found b p (domains b L) (domains-store b L) (domains-closed b L);
+        not-found = searched-none b p (domains b L) (domains-store b L) (domains-closed b L);
+        failed-finish = λ f. searched-empty b p (domains b L) (domains-store b L) (status-0-e b (domains b L) (failed-status-iff .1 f));
+        decided-finish = λ e.
+            let s = status-2-e b (domains b L) e in
+            searched-single b p (domains b L) (domains-store b L) (s .0)
+            (open-none (columnCount b) (domains b L) (allBelow-e (columnCount b) (λ c. eqb (size (getD (domains b L) c 0)) 1) (s .1)));
       }
 
 -- ---- demand 2 at every answer
 showing-state : (b : Book) → WellFormed b → (L : List Entry) (r : ℕ) → ShowsState b L (showing b L r stateOnly)
 unfolding showing
-showing-state b p L r = record { stays = stays-in-domains b p L; failed = failed-status-iff b p L; outcome = refl }
+showing-state b p L r = record { stays = stays-in-domains b p L; failed = failed-status-iff b p L; outcome = refl; tries = refl }
 
-showing-finish : (b : Book) → WellFormed b → (L : List Entry) → ShowsFinish b L (showing b L 0 (finishOutcome (firstSolution b (domains b L))))
-unfolding showing
-showing-finish b p L =
-    record {
-      found = (
-        λ e. to e (opt (firstSolution b D)),
-        λ s. let y = has-first b D d (s .0) (s .1) in ap number (found-iff b D d (y .0) .1 (y .1)),
-      );
-      first = λ x f. ap masks (found-iff b D d x .1 f);
-      not-found = (λ e. none-iff b D d .0 (no e (opt (firstSolution b D))), λ n. ap number (none-iff b D d .1 n));
-      zeros = λ n. ap masks (none-iff b D d .1 n);
-      failed = failed-status-iff b p L;
-    }
-  where
-    D : List ℕ
-    D = domains b L
+-- a finish with the limit n
+module _ (b : Book) (p : WellFormed b) (L : List Entry) (n : ℕ) where
+  abbrev now : List ℕ
+  now = domains b L
 
-    d : IsStore (columnCount b) D
-    d = domains-store b L
+  abbrev g : Searched
+  g = searched b (domains b L)
 
-    number : Option (List ℕ) → ℕ
-    number x = outcomeNumber (finishOutcome x)
+  first : (x : List ℕ) → ((searched b (domains b L)) .solution ≡ some x) ↔ FirstSolution b (domains b L) x
+  first = searched-found b p now (domains-store b L) (domains-closed b L)
 
-    masks : Option (List ℕ) → List ℕ
-    masks x = outcomeMasks (columnCount b) D (finishOutcome x)
+  shows-found : (x : List ℕ) → g .solution ≡ some x → g .tries ≤ n → ShowsFinish b L n (showing b L 0 (found x (g .tries)))
+  unfolding showing
+  shows-found x e l =
+      record {
+        stopped = (λ z. absurd (omega arith), λ m. absurd (omega arith));
+        stopped-zeros = λ z. absurd (omega arith);
+        stopped-tries = λ z. absurd (omega arith);
+        tries = λ k. refl;
+        not-stopped = λ k.
+            record {
+              found = (λ z. (x, first x .0 e .solution), λ s. refl);
+              first = λ y f. ap (map (λ v. 2 ^ v)) (first-only b now x y (first x .0 e) f);
+              not-found = (λ z. absurd (omega arith), λ m. absurd (m .none x (first x .0 e .solution)));
+              zeros = λ m. absurd (m .none x (first x .0 e .solution));
+            };
+        failed = failed-status-iff b p L;
+      }
 
-    to : number (firstSolution b D) ≡ 1 → (firstSolution b D ≡ none) ⊎ ((x : List ℕ) × (firstSolution b D ≡ some x))
-        → (x : List ℕ) × Solution b D x
-    to e (inl n) = let z : _≡_ {A = ℕ} 2 1 = rw n at e in absurd (omega arith)
-    to e (inr q) = (q .0, found-iff b D d (q .0) .0 (q .1) .solution)
+  shows-none : g .solution ≡ none → g .tries ≤ n → ShowsFinish b L n (showing b L 0 (notFound (g .tries)))
+  unfolding showing
+  shows-none e l =
+      let m = searched-none b p now (domains-store b L) (domains-closed b L) .0 e in
+      record {
+        stopped = (λ z. absurd (omega arith), λ k. absurd (omega arith));
+        stopped-zeros = λ z. absurd (omega arith);
+        stopped-tries = λ z. absurd (omega arith);
+        tries = λ k. refl;
+        not-stopped = λ k.
+            record {
+              found = (λ z. absurd (omega arith), λ s. absurd (m .none (s .0) (s .1)));
+              first = λ y f. absurd (m .none y (f .solution));
+              not-found = (λ z. m, λ z. refl);
+              zeros = λ z. refl;
+            };
+        failed = failed-status-iff b p L;
+      }
 
-    no : number (firstSolution b D) ≡ 2 → (firstSolution b D ≡ none) ⊎ ((x : List ℕ) × (firstSolution b D ≡ some x)) → firstSolution b D ≡ none
-    no e (inl n) = n
-    no e (inr q) = let z : _≡_ {A = ℕ} 1 2 = rw (q .1) at e in absurd (omega arith)
+  shows-stopped : n < g .tries → ShowsFinish b L n (showing b L 0 (stopped n))
+  unfolding showing
+  shows-stopped l =
+      record {
+        stopped = (λ z. l, λ m. refl);
+        stopped-zeros = λ z. refl;
+        stopped-tries = λ z. refl;
+        tries = λ k. absurd (k refl);
+        not-stopped = λ k. absurd (k refl);
+        failed = failed-status-iff b p L;
+      }
+
+  showing-finish : ShowsFinish b L n (showing b L 0 (limited n (searched b (domains b L))))
+  showing-finish = go (limited-or n g)
+    where
+      go : LimitedTo n (searched b (domains b L)) → ShowsFinish b L n (showing b L 0 (limited n (searched b (domains b L))))
+      go (is-found x t e s l) = rw (e, l .0) (shows-found x s (rw (l .0) at (l .1)))
+      go (is-none t e s l) = rw (e, l .0) (shows-none s (rw (l .0) at (l .1)))
+      go (is-stopped e l) = rw e (shows-stopped l)
 
 -- a narrow to mask 0 allows no value in its column
 mask-0-fails : (b : Book) (L : List Entry) (o : List ℕ) → kind o ≡ 1 → refusal b L o ≡ 0 → mask o ≡ 0 → Fails b (allowed b (push b L o))
@@ -204,7 +240,7 @@ every-answer b p =
     record {
       opened = showing-state b p [] 0;
       ordered = λ L o n. rw (answer-other b L o n) (showing-state b p (push b L o) (refusal b L o));
-      finished = λ L o f. rw (answer-finish b L o f) (showing-finish b p L);
+      finished = λ L o f. rw (answer-finish b L o f) (showing-finish b p L (tryLimit o));
       mask-0 = mask-0-fails b;
     }
 
@@ -221,22 +257,22 @@ same-domains b L M h =
 pub same-narrower : (b : Book) (L M : List Entry) → SameAllowed b L M → Within (allowed b L) (allowed b M)
 same-narrower b L M h = record { at = λ c v e. sym (h .at c v) ∙ e }
 
--- two finishes over equal domains
-pub finish-same : (b : Book) (L M : List Entry) (o : List ℕ) → domains b L ≡ domains b M → AcceptedFinish b L o → AcceptedFinish b M o
-    → SameFinish (answerBytes (answer b L o)) (answerBytes (answer b M o))
+-- two finishes that show the same, over equal domains
+pub finish-same : (b : Book) (L M : List Entry) (o q : List ℕ) → domains b L ≡ domains b M → AcceptedFinish b L o → AcceptedFinish b M q
+    → finishing b L (tryLimit o) ≡ finishing b M (tryLimit q) → SameFinish (answerBytes (answer b L o)) (answerBytes (answer b M q))
 unfolding answerBytes showing
-finish-same b L M o e f g =
-    let u = showing b L 0 (finishOutcome (firstSolution b (domains b L))) in
-    let v = showing b M 0 (finishOutcome (firstSolution b (domains b M))) in
-    rw (answer-finish b L o f, answer-finish b M o g)
+finish-same b L M o q e f g same =
+    let u = showing b L 0 (finishing b L (tryLimit o)) in
+    let v = showing b M 0 (finishing b M (tryLimit q)) in
+    rw (answer-finish b L o f, answer-finish b M q g)
     (record {
       byte-1 = ap (statusOf b) e;
-      byte-3 = ap (λ (D : List ℕ). outcomeNumber (finishOutcome (firstSolution b D))) e;
+      byte-3 = ap outcomeNumber same;
       byte-4 = ap (doneOf b) e;
-      bytes-8-to-71 = λ i p q.
-          bytes-8-on u i p
-          ∙ ap (λ (D : List ℕ). getD (domainBytes (outcomeMasks (columnCount b) D (finishOutcome (firstSolution b D))) 16) (i - 8) 0) e
-          ∙ sym (bytes-8-on v i p);
+      bytes-6-to-71 = λ i l m.
+          bytes-6-on u i l
+          ∙ ap₂ (λ (D : List ℕ) (x : Outcome). getD (halfBytes (outcomeTries x) ++ domainBytes (outcomeMasks (columnCount b) D x) 16) (i - 6) 0) e same
+          ∙ sym (bytes-6-on v i l);
     })
 
 -- ---- done
@@ -276,3 +312,23 @@ pub wider-first : (b : Book) (L M : List Entry) → Within (allowed b L) (allowe
 wider-first b L M w x f =
     let y = has-first b (domains b M) (domains-store b M) x (solution-mono b (domains b L) (domains b M) x (domains-mono b L M w) (f .solution)) in
     (y .0, y .1, first-wider b (domains b L) (domains b M) x (y .0) (domains-mono b L M w) f (y .1))
+
+-- ---- tries for a finish
+pub claimTries : ClaimTries
+claimTries b p = (
+  record {
+    larger-limit = λ L n m. limited-larger n m (searched b (domains b L));
+    enough = λ L n. limited-enough n (searched b (domains b L));
+    same-finish = λ L M h n. ap (λ (D : List ℕ). limited n (searched b D)) (same-domains b L M h);
+    wider-first = λ L M w x e.
+        let f = searched-found b p (domains b L) (domains-store b L) (domains-closed b L) x .0 e in
+        let y = wider-first b L M w x f in
+        (y .0, searched-found b p (domains b M) (domains-store b M) (domains-closed b M) (y .0) .1 (y .1), y .2);
+  },
+  λ D d.
+      record {
+        failed = searched-empty b p D d;
+        single = λ e q. searched-single b p D d e (le-ltb (openColumn (columnCount b) D) (columnCount b) (omega arith));
+        many = searched-open b p D d;
+      },
+)

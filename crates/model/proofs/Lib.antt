@@ -10,6 +10,7 @@ pub mod Tallies
 pub mod Books
 pub mod Solutions
 pub mod Search
+pub mod Outcomes
 pub mod Trails
 pub mod Refusals
 pub mod Answers

@@ -11,7 +11,7 @@ use Rattle.fields.specs.Bytes.{byteAt}
 use borrow.Author.Tests.{eqb-true, eqb-false, ne-eqb, ltb-false, leb-false}
 use Rattle.model.specs.Masks.{bit}
 use Rattle.model.specs.Books.{Book, columnCount}
-use Rattle.model.specs.Orders.{byKind, narrowCauses, markCauses, backCauses, otherCauses, kind, argument, mask, zeroPlaces, wrongPlace, someWrong, Entry, narrowed, checkpoint, depth, before, Cause, refuse_if_, firstCause, outside, refusal, push}
+use Rattle.model.specs.Orders.{byKind, narrowCauses, markCauses, backCauses, finishCauses, otherCauses, kind, argument, mask, tryLimit, zeroPlaces, wrongPlace, someWrong, Entry, narrowed, checkpoint, depth, before, Cause, refuse_if_, firstCause, outside, refusal, push}
 use Rattle.model.proofs.Masks.{bit-of-zero}
 use Rattle.model.proofs.Tests.{or-l, or-r, either, anyBelow-none}
 
@@ -66,9 +66,10 @@ module _ (b : Book) (L : List Entry) (o : List ℕ) where
     unfolding refusal firstCause
     refusal-back k = rw (e, k)
 
-  pub refusal-finish : kind o ≡ 4 → refusal b L o ≡ cond (someWrong (zeroPlaces 4) o) 25 0
+  -- a finish is refused by its bytes alone
+  pub refusal-finish : kind o ≡ 4 → refusal b L o ≡ cond (someWrong (zeroPlaces 4) o) 25 (firstCause (finishCauses o))
   unfolding refusal firstCause
-  refusal-finish k = rw k
+  refusal-finish k = rw k refl
 
   pub refusal-other : (kind o ≡ 1 → ⊥) → (kind o ≡ 2 → ⊥) → (kind o ≡ 3 → ⊥) → (kind o ≡ 4 → ⊥) → refusal b L o ≡ 20
   unfolding refusal firstCause
@@ -83,11 +84,11 @@ module _ (b : Book) (L : List Entry) (o : List ℕ) where
     where
       go : (eqb (kind o) 1 ≡ true) ⊎ (eqb (kind o) 1 ≡ false) → (eqb (kind o) 2 ≡ true) ⊎ (eqb (kind o) 2 ≡ false)
           → (eqb (kind o) 3 ≡ true) ⊎ (eqb (kind o) 3 ≡ false) → (eqb (kind o) 4 ≡ true) ⊎ (eqb (kind o) 4 ≡ false)
-          → firstCause (byKind (kind o) (narrowCauses b o) (markCauses (depth L)) (backCauses (depth L) o) [] otherCauses) < 256
+          → firstCause (byKind (kind o) (narrowCauses b o) (markCauses (depth L)) (backCauses (depth L) o) (finishCauses o) otherCauses) < 256
       go (inl k) p q r = rw k (small-cause 21 _ _ (omega arith) (small-cause 22 _ _ (omega arith) no-causes))
       go (inr k) (inl p) q r = rw (k, p) (small-cause 23 _ _ (omega arith) no-causes)
       go (inr k) (inr p) (inl q) r = rw (k, p, q) (small-cause 24 _ _ (omega arith) no-causes)
-      go (inr k) (inr p) (inr q) (inl r) = rw (k, p, q, r) no-causes
+      go (inr k) (inr p) (inr q) (inl r) = rw (k, p, q, r) (small-cause 27 _ _ (omega arith) no-causes)
       go (inr k) (inr p) (inr q) (inr r) = rw (k, p, q, r) (small-cause 20 _ _ (omega arith) no-causes)
 
   -- ---- what an accepted order tells
@@ -117,6 +118,13 @@ module _ (b : Book) (L : List Entry) (o : List ℕ) where
       go (inl p) q r = absurd (true≢false (sym (or-l _ (ltb (depth L) (argument o)) p) ∙ r))
       go (inr p) (inl q) r = absurd (true≢false (sym (or-r (eqb (argument o) 0) _ q) ∙ r))
       go (inr p) (inr q) r = let n : argument o ≡ 0 → ⊥ = eqb-false (argument o) 0 p in (omega arith, ltb-false _ _ q)
+
+  pub accepted-finish : kind o ≡ 4 → refusal b L o ≡ 0 → tryLimit o ≤ 65535
+  unfolding refusal
+  accepted-finish k e =
+      let f = no-cause 24 _ _ (rw k at e) in
+      let g = no-cause 26 _ _ (f .1) in
+      ltb-false _ _ (g .0)
 
   -- what holds of the trail as it is, and of what each accepted order makes of it, holds after the order
   pub push-ind : (P : List Entry → Type 0) → P L

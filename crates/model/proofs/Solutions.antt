@@ -1,21 +1,31 @@
 -- Laws of solutions: found is the first, and none exactly when there is none; a wider store's first is the same or lower. Assumes nothing.
 use mathlib.Core.Path.{_≡_, refl, sym, _∙_}
-use mathlib.Core.Bool.{true}
+use mathlib.Core.Bool.{Bool, true}
 use mathlib.Core.Logic.{_⊎_, inl, inr, _↔_}
-use mathlib.Core.Option.{none, some}
+use mathlib.Core.Option.{Option, none, some}
 use mathlib.Core.List.{List, List·Memᴰ}
 use Prim.Native.Nat.{ℕ, _<_}
 use lib.Dec.{eqb}
 use lib.ListN.{length, getD}
 use borrow.Author.Tests.{eqb-true, eq-eqb}
+use Rattle.model.specs.Tests.{allIn}
 use Rattle.model.specs.Stores.{has, Within, IsStore, storeOf}
-use Rattle.model.specs.Choices.{pick, Takes, Lower, First}
+use Rattle.model.specs.Choices.{pick, Takes, Lower}
 use Rattle.model.specs.Books.{Sheet, Book, columnCount, allows, WellFormed, ConsistentStore, closure}
-use Rattle.model.specs.Solutions.{Solution, FirstSolution, NoSolution, formsRows, firstSolution}
+use Rattle.model.specs.Solutions.{Solution, FirstSolution, NoSolution}
 use Rattle.model.proofs.Tests.{allIn-e, allIn-i}
 use Rattle.model.proofs.Stores.{has-i, has-e, in-store}
-use Rattle.model.proofs.Choices.{opt, first-some-iff, first-none-iff, getD-pick, length-pick, pick-i}
+use Rattle.model.proofs.Choices.{First, firstChoice, lower-not, opt, first-some-iff, first-none-iff, getD-pick, length-pick, pick-i}
 use Rattle.model.proofs.Books.{stays-iff}
+
+-- ---- the first solution, by a look at every choice
+-- every sheet allows the values of x in its columns
+unfoldable pub formsRows : Book → List ℕ → Bool
+formsRows b x = allIn (b .sheets) (λ s. allows s (pick x (s .columns)))
+
+-- the first solution in B, or none
+unfoldable pub firstSolution : Book → List ℕ → Option (List ℕ)
+firstSolution b B = firstChoice B (formsRows b)
 
 forms-e : (b : Book) (x : List ℕ) → formsRows b x ≡ true → (s : Sheet) → List·Memᴰ s (b .sheets) → allows s (pick x (s .columns)) ≡ true
 unfolding formsRows
@@ -68,6 +78,15 @@ module _ (b : Book) (B : List ℕ) (h : IsStore (columnCount b) B) where
 -- a solution in a store is one in a wider store
 pub solution-mono : (b : Book) (A B x : List ℕ) → Within A B → Solution b A x → Solution b B x
 solution-mono b A B x w f = record { size = f .size; takes = λ c l. w .at c (getD x c 0) (f .takes c l); forms = f .forms }
+
+-- there is one first
+pub first-only : (b : Book) (B x y : List ℕ) → FirstSolution b B x → FirstSolution b B y → x ≡ y
+first-only b B x y f g = go (f .least y (g .solution)) (g .least x (f .solution))
+  where
+    go : (x ≡ y) ⊎ Lower x y → (y ≡ x) ⊎ Lower y x → x ≡ y
+    go (inl e) k = e
+    go (inr a) (inl e) = sym e
+    go (inr a) (inr k) = absurd (lower-not x y a k)
 
 -- the first depends on the values of the store alone
 pub first-same : (b : Book) (A B x : List ℕ) → Within A B → Within B A → FirstSolution b A x → FirstSolution b B x

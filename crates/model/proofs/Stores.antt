@@ -93,6 +93,14 @@ filled-i C B b h =
     allBelow-i C (λ c. anyBelow 32 (λ v. has B c v))
     (λ c l. let r = h c l in anyBelow-i 32 (λ v. has B c v) (r .0) (in-store C B b c (r .0) (r .1) .1) (r .1))
 
+-- no column of the empty store is filled
+pub empty-unfilled : (C : ℕ) → 0 < C → allFilled C (emptyStore C) ≡ false
+empty-unfilled C pos = go (either (allFilled C (emptyStore C)))
+  where
+    go : (allFilled C (emptyStore C) ≡ true) ⊎ (allFilled C (emptyStore C) ≡ false) → allFilled C (emptyStore C) ≡ false
+    go (inl e) = let r = filled-e C (emptyStore C) e 0 pos in absurd (empty-has C 0 (r .0) (r .1))
+    go (inr e) = e
+
 -- ---- a store within another and not equal to it has fewer values
 pub values-fall : (C : ℕ) (B A : List ℕ) → IsStore C B → IsStore C A → Within B A → (B ≡ A → ⊥) → values C B < values C A
 unfolding values

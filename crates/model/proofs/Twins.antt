@@ -1,30 +1,30 @@
--- Twins answer alike: closure, first solution and refusals go by the columns and by what the sheets allow. Why a sheet allows something is not
+-- Twins answer alike: closure, search and refusals go by the columns and by what the sheets allow. Why a sheet allows something is not
 -- looked into. Assumes nothing.
-use mathlib.Core.Path.{_≡_, refl, ap, ap₂, _∙_}
-use mathlib.Core.Bool.{Bool, true, cond, not, _&&_, _||_}
-use mathlib.Core.Option.{Option}
+use mathlib.Core.Path.{_≡_, refl, sym, ap, ap₂, _∙_}
+use mathlib.Core.Bool.{Bool, true, false, cond, not, _&&_, _||_}
+use mathlib.Core.Logic.{_⊎_, inl, inr}
 use mathlib.Core.List.{List, [], _∷_}
-use Prim.Native.Nat.{ℕ, _+_, _<_}
+use Prim.Native.Nat.{ℕ, zero, suc, _+_, _<_}
 use lib.Dec.{eqb, ltb}
 use lib.ListN.{length, getD}
 use borrow.Author.Tests.{ltb-true}
 use Rattle.model.specs.Tests.{anyIn, oneIf}
 use Rattle.model.specs.Masks.{maskOf}
-use Rattle.model.specs.Stores.{has, Within, allFilled}
+use Rattle.model.specs.Stores.{has, Within, IsStore, assign, allFilled, values}
 use Rattle.model.specs.Choices.{pick, Takes, anyChoice, everyChoice}
 use Rattle.model.specs.Books.{Sheet, Book, columnCount, sheetAt, allows, WellFormed, supports, supportedIn, supported, closure}
-use Rattle.model.specs.Solutions.{formsRows, firstSolution}
-use Rattle.model.specs.Orders.{Entry, byKind, kind, depth, outside, refusal, isAccepted, push, permits, allowed, domains}
-use Rattle.model.specs.Answers.{assigned, statusOf, subsumed, doneOf, Answer, Outcome, stateOnly, outcomeNumber, outcomeMasks, finishOutcome, outcome, showing, answer, answersFrom, answers, acceptedFrom, acceptedCount}
+use Rattle.model.specs.Search.{after, openColumn, Searched, searchFrom, searched}
+use Rattle.model.specs.Orders.{Entry, byKind, kind, tryLimit, depth, outside, refusal, isAccepted, push, permits, allowed, domains}
+use Rattle.model.specs.Answers.{assigned, statusOf, subsumed, doneOf, Answer, Outcome, stateOnly, outcomeNumber, outcomeTries, outcomeMasks, limited, outcome, showing, answer, answersFrom, answers, acceptedFrom, acceptedCount}
 use Rattle.model.specs.Twins.{Combination, TwinSheets, Twins, TwinsAnswer}
-use Rattle.model.proofs.Tests.{and-l, allIn-same}
+use Rattle.model.proofs.Tests.{and-l, allIn-same, either}
 use Rattle.model.proofs.Masks.{maskOf-same}
-use Rattle.model.proofs.Stores.{has-e}
+use Rattle.model.proofs.Stores.{has-e, within-refl, within-trans, assign-e, assign-store}
 use Rattle.model.proofs.Closure.{closure-same}
-use Rattle.model.proofs.Choices.{firstChoice-same, anyChoice-same, everyChoice-same, getD-pick, length-pick, pick-e}
+use Rattle.model.proofs.Choices.{anyChoice-same, everyChoice-same, length-pick, pick-e}
 use Rattle.model.proofs.Books.{supported-mono}
+use Rattle.model.proofs.Search.{after-inside, after-store, search-assigned, search-failed, search-open, tryEach-same}
 use Rattle.model.proofs.Trails.{allowed-store, domains-store, domains-within}
-use Rattle.model.proofs.Rows.{in-list}
 
 -- ---- what is allowed is below V, so only combinations are met
 module _ (b : Book) (L : List Entry) where
@@ -42,17 +42,6 @@ module _ (b : Book) (L : List Entry) where
             allowed-below (getD cs i 0) (getD x i 0) (w .at _ _ (pick-e B cs i (getD x i 0) (t .each i (rw (length-pick B cs) l)) .1));
       }
 
-  -- the values in these columns of a choice from the current domains
-  picked-combination : (x : List ℕ) → Takes (domains b L) x → (cs : List ℕ) → ((i : ℕ) → i < length cs → getD cs i 0 < columnCount b)
-      → Combination (b .counts) cs (pick x cs)
-  picked-combination x t cs h =
-      record {
-        size = length-pick x cs;
-        each = λ i l.
-            rw (getD-pick x cs i l)
-            (allowed-below (getD cs i 0) _ (domains-within b L .at _ _ (t .each (getD cs i 0) (rw (domains-store b L .columns) (h i l)))));
-      }
-
   -- ---- a sheet and its twin
   supportedIn-twin : (s t : Sheet) → TwinSheets (b .counts) s t → (B : List ℕ) → Within B (allowed b L) → (c v : ℕ)
       → supportedIn B c v s ≡ supportedIn B c v t
@@ -68,27 +57,53 @@ abbrev twin : Book → List Sheet → Book
 twin b ts = record { counts = b .counts; sheets = ts }
 
 module _ (b : Book) (p : WellFormed b) (ts : List Sheet) (h : Twins b (twin b ts)) where
-  domains-twin : (L : List Entry) → domains b L ≡ domains (twin b ts) L
-  unfolding domains closure allowed supported
-  domains-twin L =
-      closure-same (columnCount b) (supported b) (supported (twin b ts)) (supported-mono b) (supported-mono (twin b ts)) (allowed b L) (allowed-store b L)
+  -- of what is allowed, which has no value from V on
+  closure-twin : (L : List Entry) (A : List ℕ) → IsStore (columnCount b) A → Within A (allowed b L) → closure b A ≡ closure (twin b ts) A
+  unfolding closure supported
+  closure-twin L A a inside =
+      closure-same (columnCount b) (supported b) (supported (twin b ts)) (supported-mono b) (supported-mono (twin b ts)) A a
       (λ B w c v.
       allIn-same _ (b .sheets) ts (supportedIn B c v) (h .as-many)
-      (λ s l. supportedIn-twin b L (sheetAt b s) (sheetAt (twin b ts) s) (h .sheets s l) B w c v))
+      (λ s l. supportedIn-twin b L (sheetAt b s) (sheetAt (twin b ts) s) (h .sheets s l) B (within-trans w inside) c v))
 
-  forms-twin : (L : List Entry) (x : List ℕ) → Takes (domains b L) x → formsRows b x ≡ formsRows (twin b ts) x
-  unfolding formsRows
-  forms-twin L x t =
-      allIn-same _ (b .sheets) ts (λ s. allows s (pick x (s .columns))) (h .as-many)
-      (λ s l.
-      h .sheets s l .same-allowed (pick x (sheetAt b s .columns))
-      (picked-combination b L x t (sheetAt b s .columns) (p .sheet (sheetAt b s) (in-list _ (b .sheets) s l) .inside))
-      ∙ ap (λ (cs : List ℕ). allows (sheetAt (twin b ts) s) (pick x cs)) (h .sheets s l .same-columns))
+  domains-twin : (L : List Entry) → domains b L ≡ domains (twin b ts) L
+  unfolding domains allowed
+  domains-twin L = closure-twin L (allowed b L) (allowed-store b L) (within-refl (allowed b L))
 
-  first-twin : (L : List Entry) → firstSolution b (domains b L) ≡ firstSolution (twin b ts) (domains (twin b ts) L)
-  unfolding firstSolution
-  first-twin L =
-      firstChoice-same (domains b L) (formsRows b) (formsRows (twin b ts)) (forms-twin L) ∙ ap (firstSolution (twin b ts)) (domains-twin L)
+  -- ---- the search: every store that it meets is closed alike
+  search-twin : (L : List Entry) (k : ℕ) (D : List ℕ) → IsStore (columnCount b) D → Within D (allowed b L) → searchFrom b k D ≡ searchFrom (twin b ts) k D
+  unfolding searchFrom
+  search-twin L zero D d w = refl
+  search-twin L (suc k) D d w = go (λ X x y. search-twin L k X x y) (either (allFilled (columnCount b) D)) (either (ltb (openColumn (columnCount b) D) (columnCount b)))
+    where
+      C : ℕ
+      C = columnCount b
+
+      c : ℕ
+      c = openColumn C D
+
+      go : ((X : List ℕ) → IsStore (columnCount b) X → Within X (allowed b L) → searchFrom b k X ≡ searchFrom (twin b ts) k X)
+          → (allFilled (columnCount b) D ≡ true) ⊎ (allFilled (columnCount b) D ≡ false)
+          → (ltb (openColumn (columnCount b) D) (columnCount b) ≡ true) ⊎ (ltb (openColumn (columnCount b) D) (columnCount b) ≡ false)
+          → searchFrom b (suc k) D ≡ searchFrom (twin b ts) (suc k) D
+      go rec (inr e) q = search-failed b k D e ∙ sym (search-failed (twin b ts) k D e)
+      go rec (inl e) (inr q) = search-assigned b k D e q ∙ sym (search-assigned (twin b ts) k D e q)
+      go rec (inl e) (inl q) =
+          let l : c < C = ltb-true c C q in
+          search-open b k D e q
+          ∙ tryEach-same 32 (has D c) (has D c) (λ v. searchFrom b k (after b D c v)) (λ v. searchFrom (twin b ts) k (after (twin b ts) D c v)) (λ v i. refl)
+          (λ v i s.
+          rec (after b D c v) (after-store b p D d c l v s) (within-trans (after-inside b p D d c l v s) w)
+          ∙ ap (searchFrom (twin b ts) k)
+          (closure-twin L (assign D c v) (assign-store C D c v d l i)
+          (record { at = λ j u z. w .at j u (assign-e D c v j u (rw (d .columns) l) s z .0) })))
+          ∙ sym (search-open (twin b ts) k D e q)
+
+  searched-twin : (L : List Entry) → searched b (domains b L) ≡ searched (twin b ts) (domains (twin b ts) L)
+  unfolding searched
+  searched-twin L =
+      search-twin L (suc (values (columnCount b) (domains b L))) (domains b L) (domains-store b L) (domains-within b L)
+      ∙ ap (searched (twin b ts)) (domains-twin L)
 
   -- of the current domains, which have no value from V on
   subsumed-twin : (L : List Entry) (s : ℕ) → s < length (b .sheets) → subsumed (domains b L) (sheetAt b s) ≡ subsumed (domains b L) (sheetAt (twin b ts) s)
@@ -112,15 +127,15 @@ module _ (b : Book) (p : WellFormed b) (ts : List Sheet) (h : Twins b (twin b ts
   showing-twin L r f =
       ap₂
       (λ (D : List ℕ) (n : ℕ).
-      record { refused = r; status = statusOf b D; depth = depth L; outcome = outcomeNumber f; done = n; shown = outcomeMasks (columnCount b) D f })
+      record { refused = r; status = statusOf b D; depth = depth L; outcome = outcomeNumber f; done = n; tries = outcomeTries f; shown = outcomeMasks (columnCount b) D f })
       (domains-twin L) (done-twin L ∙ ap (doneOf (twin b ts)) (domains-twin L))
 
   outcome-twin : (L : List Entry) (o : List ℕ) → outcome b L o ≡ outcome (twin b ts) L o
   unfolding outcome refusal outside
   outcome-twin L o =
       ap
-      (λ (x : Option (List ℕ)). cond (isAccepted b L o) (byKind (kind o) stateOnly stateOnly stateOnly (finishOutcome x) stateOnly) stateOnly)
-      (first-twin L)
+      (λ (g : Searched). cond (isAccepted b L o) (byKind (kind o) stateOnly stateOnly stateOnly (limited (tryLimit o) g) stateOnly) stateOnly)
+      (searched-twin L)
 
   answer-twin : (L : List Entry) (o : List ℕ) → answer b L o ≡ answer (twin b ts) L o
   unfolding answer push refusal outside

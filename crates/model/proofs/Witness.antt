@@ -9,7 +9,7 @@ use native.Mathlib.Omega.{arith}
 use lib.Dec.{eqb, leb, ltb}
 use lib.ListN.{getD, length}
 use borrow.Author.Tests.{eqb-true, leb-true, ltb-true}
-use Rattle.model.specs.Acceptance.{AnyBoard, BooksWellFormed, H, H1, H2, H7, H8, H9, HA, RowFacts, openingIndex, openingRows, sheetOf, unequal}
+use Rattle.model.specs.Acceptance.{AnyBoard, BooksWellFormed, H, H1, H2, H7, H8, H9, HA, HD, RowFacts, openingIndex, openingRows, sheetOf, unequal}
 use Rattle.model.specs.Books.{Book, Sheet, WellFormed, WellFormedSheet, columnCount, isAny, sheetAt}
 use Rattle.model.specs.Orders.{Entry, allowed, domains, narrowed}
 use Rattle.model.specs.States.{Indexed, OneSheet, ofSheet, valid, validRow, validWord}
@@ -96,6 +96,7 @@ booksWellFormed =
       h7 = book-well-formed H7 refl;
       h8 = book-well-formed H8 refl;
       h9 = book-well-formed H9 refl;
+      hd = book-well-formed HD refl;
       ha = book-well-formed HA refl;
       four = book-well-formed _ refl;
       three = book-well-formed _ refl;

@@ -1,5 +1,5 @@
 -- The examples of document 01 that the customer accepts by: harbour book H, the ten facts K1 to K10, the run of seven lines; and beside
--- them what the search finds, refusals, bytes, valid rows, done sheets, and what demand 3 leaves free. Each record is proved in proofs/Acceptance.antt under
+-- them what the search finds and with how many tries, refusals, bytes, valid rows, done sheets, and what demand 3 leaves free. Each record is proved in proofs/Acceptance.antt under
 -- its name with a small letter; `BooksWellFormed`, `RowFacts` and `AnyBoard` in proofs/Witness.antt.
 use mathlib.Core.Path.{_≡_}
 use mathlib.Core.Option.{none, some}
@@ -8,8 +8,8 @@ use Prim.Native.Nat.{ℕ, zero, suc}
 use lib.ListN.{replicate}
 use Rattle.fields.specs.Bytes.{byteAt}
 use Rattle.model.specs.Books.{Sheet, Book, WellFormed, sheetAt}
-use Rattle.model.specs.Search.{searchSolution}
-use Rattle.model.specs.Orders.{Entry, checkpoint, refusal, trail, domains}
+use Rattle.model.specs.Search.{searched}
+use Rattle.model.specs.Orders.{tryLimit, Entry, checkpoint, refusal, trail, domains}
 use Rattle.model.specs.Answers.{Answer, answers, lastAnswer, acceptedCount, answerBytes}
 use Rattle.model.specs.States.{validWord, StateOf}
 use Rattle.model.specs.Demands.{SameAllowed}
@@ -59,9 +59,16 @@ back m = 3 ∷ m ∷ 0 ∷ 0 ∷ 0 ∷ 0 ∷ 0 ∷ 0 ∷ []
 abbrev pub finish : List ℕ
 finish = 4 ∷ 0 ∷ 0 ∷ 0 ∷ 0 ∷ 0 ∷ 0 ∷ 0 ∷ []
 
--- an answer in the order of a printed line: "refusal, status, depth, done, byte 3, the C domains"
+-- a finish with a limit below 256
+abbrev pub finishIn : ℕ → List ℕ
+finishIn n = 4 ∷ 0 ∷ 0 ∷ 0 ∷ n ∷ 0 ∷ 0 ∷ 0 ∷ []
+
+-- the tries of a finish, and the answer in the order of a printed line: "refusal, status, depth, done, byte 3, the C domains"
+abbrev pub tried : ℕ → ℕ → ℕ → ℕ → ℕ → ℕ → List ℕ → Answer
+tried t r s k n f B = record { refused = r; status = s; depth = k; outcome = f; done = n; tries = t; shown = B }
+
 abbrev pub line : ℕ → ℕ → ℕ → ℕ → ℕ → List ℕ → Answer
-line r s k n f B = record { refused = r; status = s; depth = k; outcome = f; done = n; shown = B }
+line r s k n f B = tried 0 r s k n f B
 
 pub record TenFacts : Type 0 where
   -- "K1 opening: domains 7 3 3, done 0."
@@ -75,9 +82,9 @@ pub record TenFacts : Type 0 where
   -- "K5 narrow width 2: 2 3 3, done 1."
   pub k5 : lastAnswer H (narrow 0 2 ∷ []) ≡ line 0 1 0 1 0 (2 ∷ 3 ∷ 3 ∷ [])
   -- "K6 finish at opening: 1 1 1."
-  pub k6 : lastAnswer H (finish ∷ []) ≡ line 0 1 0 0 1 (1 ∷ 1 ∷ 1 ∷ [])
+  pub k6 : lastAnswer H (finish ∷ []) ≡ tried 2 0 1 0 0 1 (1 ∷ 1 ∷ 1 ∷ [])
   -- "K7 three columns of 2 values and a sheet 01 10 on each pair: domains 3 3 3, finish none."
-  pub k7 : (domains H7 [] ≡ 3 ∷ 3 ∷ 3 ∷ []) × (lastAnswer H7 (finish ∷ []) ≡ line 0 1 0 0 2 (0 ∷ 0 ∷ 0 ∷ []))
+  pub k7 : (domains H7 [] ≡ 3 ∷ 3 ∷ 3 ∷ []) × (lastAnswer H7 (finish ∷ []) ≡ tried 2 0 1 0 0 2 (0 ∷ 0 ∷ 0 ∷ []))
   -- "K8 a sheet without rows: dead."
   pub k8 : lastAnswer H8 [] ≡ line 0 0 0 0 0 (0 ∷ 0 ∷ 0 ∷ [])
   -- "K9 no sheets: all values stay."
@@ -94,7 +101,7 @@ pub record SevenLines : Type 0 where
       ≡ line 0 1 0 0 0 (7 ∷ 3 ∷ 3 ∷ [])
       ∷ line 0 1 1 0 0 (7 ∷ 3 ∷ 3 ∷ [])
       ∷ line 0 1 1 3 0 (3 ∷ 1 ∷ 1 ∷ [])
-      ∷ line 0 1 1 3 1 (1 ∷ 1 ∷ 1 ∷ [])
+      ∷ tried 1 0 1 1 3 1 (1 ∷ 1 ∷ 1 ∷ [])
       ∷ line 0 1 0 0 0 (7 ∷ 3 ∷ 3 ∷ [])
       ∷ line 24 1 0 0 0 (7 ∷ 3 ∷ 3 ∷ [])
       ∷ line 0 2 0 3 0 (4 ∷ 2 ∷ 2 ∷ [])
@@ -107,12 +114,43 @@ pub record SevenLines : Type 0 where
 abbrev pub H2 : Book
 H2 = record { counts = 2 ∷ 2 ∷ []; sheets = sheetOf (0 ∷ 1 ∷ []) unequal ∷ [] }
 
+-- K7 on columns 1 to 3 where column 0 is 0, and one set where it is 1
+abbrev pub deadFirst : List (List ℕ)
+deadFirst = (0 ∷ 0 ∷ 1 ∷ []) ∷ (0 ∷ 1 ∷ 0 ∷ []) ∷ (1 ∷ 0 ∷ 0 ∷ []) ∷ []
+
+abbrev pub HD : Book
+HD = record {
+  counts = 2 ∷ 2 ∷ 2 ∷ 2 ∷ [];
+  sheets =
+      sheetOf (0 ∷ 1 ∷ 2 ∷ []) deadFirst ∷ sheetOf (0 ∷ 1 ∷ 3 ∷ []) deadFirst ∷ sheetOf (0 ∷ 2 ∷ 3 ∷ []) deadFirst ∷ [];
+}
+
 pub record SearchFacts : Type 0 where
-  -- K6 and K7 by the search
-  pub k6 : searchSolution H (domains H []) ≡ some (0 ∷ 0 ∷ 0 ∷ [])
-  pub k7 : searchSolution H7 (domains H7 []) ≡ none
+  -- K6: width 0 leaves both boards, and board 0 is the second try. K7: each of the two tries ends dead
+  pub k6 : searched H (domains H []) ≡ record { solution = some (0 ∷ 0 ∷ 0 ∷ []); tries = 2 }
+  pub k7 : searched H7 (domains H7 []) ≡ record { solution = none; tries = 2 }
   -- "The search sets the lowest column that isn't single": the highest first would find 10
-  pub lowest-column : searchSolution H2 (domains H2 []) ≡ some (0 ∷ 1 ∷ [])
+  pub lowest-column : searched H2 (domains H2 []) ≡ record { solution = some (0 ∷ 1 ∷ []); tries = 1 }
+  -- tries below a value that comes to nothing count, also where a set is found after it: 0, under it 0 and 1, and 1
+  pub dead-first : searched HD (domains HD []) ≡ record { solution = some (1 ∷ 0 ∷ 0 ∷ 0 ∷ []); tries = 4 }
+
+-- request W4, on both sides of each limit
+pub record TriesFacts : Type 0 where
+  -- "stopped, exactly when the answer needs more tries than the limit; the domains are then zero"; found with the last try
+  pub stopped-at-1 : lastAnswer H (finishIn 1 ∷ []) ≡ tried 1 0 1 0 0 3 (0 ∷ 0 ∷ 0 ∷ [])
+  pub found-at-2 : lastAnswer H (finishIn 2 ∷ []) ≡ tried 2 0 1 0 0 1 (1 ∷ 1 ∷ 1 ∷ [])
+  -- "A larger limit never changes found or none, nor the set"
+  pub found-at-3 : lastAnswer H (finishIn 3 ∷ []) ≡ tried 2 0 1 0 0 1 (1 ∷ 1 ∷ 1 ∷ [])
+  -- none with the last try, which ends dead, as the first does
+  pub k7-stopped : lastAnswer H7 (finishIn 1 ∷ []) ≡ tried 1 0 1 0 0 3 (0 ∷ 0 ∷ 0 ∷ [])
+  pub k7-none : lastAnswer H7 (finishIn 2 ∷ []) ≡ tried 2 0 1 0 0 2 (0 ∷ 0 ∷ 0 ∷ [])
+  -- dead and decided: no try
+  pub failed : lastAnswer H (narrow 1 0 ∷ finishIn 1 ∷ []) ≡ tried 0 0 0 0 0 2 (0 ∷ 0 ∷ 0 ∷ [])
+  pub decided : lastAnswer H (narrow 0 4 ∷ finishIn 1 ∷ []) ≡ tried 0 0 2 0 3 1 (4 ∷ 2 ∷ 2 ∷ [])
+  -- "a limit from 1 to 65,535; 0 is read as 65,535"
+  pub limit-0 : tryLimit finish ≡ 65535
+  pub limit-1 : tryLimit (finishIn 1) ≡ 1
+  pub limit-65535 : tryLimit (4 ∷ 0 ∷ 0 ∷ 0 ∷ 255 ∷ 255 ∷ 0 ∷ 0 ∷ []) ≡ 65535
 
 -- ---- refusals: "Within a kind, the cause written first counts"
 -- an order with an argument, byte 2, byte 3, the mask's lowest and its highest byte
@@ -149,11 +187,16 @@ pub record RefusalFacts : Type 0 where
   pub back-0 : refusal H (checkpoints 2) (back 0) ≡ 24
   pub back-above : refusal H (checkpoints 2) (back 3) ≡ 24
   pub back-depth : refusal H (checkpoints 2) (back 2) ≡ 0
-  -- finish: 25
-  pub finish-argument : refusal H [] (order 4 1 0 0 0 0) ≡ 25
-  pub finish-last-byte : refusal H [] (order 4 0 0 0 0 1) ≡ 25
-  -- a refused finish has byte 3 zero and shows the domains
+  -- finish: 25, "which covers only bytes 1 to 3 here", then 27
+  pub finish-argument : refusal H [] (order 4 1 0 0 0 1) ≡ 25
+  pub finish-byte-2 : refusal H [] (order 4 0 1 0 0 1) ≡ 25
+  pub finish-byte-3 : refusal H [] (order 4 0 0 1 0 1) ≡ 25
+  pub finish-last-byte : refusal H [] (order 4 0 0 0 0 1) ≡ 27
+  pub finish-65536 : refusal H [] (4 ∷ 0 ∷ 0 ∷ 0 ∷ 0 ∷ 0 ∷ 1 ∷ 0 ∷ []) ≡ 27
+  pub finish-65535 : refusal H [] (4 ∷ 0 ∷ 0 ∷ 0 ∷ 255 ∷ 255 ∷ 0 ∷ 0 ∷ []) ≡ 0
+  -- a refused finish has byte 3 zero, shows the domains and no tries
   pub finish-refused : lastAnswer H (order 4 1 0 0 0 0 ∷ []) ≡ line 25 1 0 0 0 (7 ∷ 3 ∷ 3 ∷ [])
+  pub finish-too-large : lastAnswer H (order 4 0 0 0 0 1 ∷ []) ≡ line 27 1 0 0 0 (7 ∷ 3 ∷ 3 ∷ [])
   -- "Other kinds are refused with 20, before the rest"
   pub kind-0 : refusal H [] (order 0 3 1 1 255 255) ≡ 20
   pub kind-7 : refusal H [] (order 7 3 1 1 255 255) ≡ 20
@@ -169,7 +212,9 @@ pub record ByteFacts : Type 0 where
       ≡ 0 ∷ 1 ∷ 1 ∷ 0 ∷ 0 ∷ 0 ∷ 0 ∷ 0 ∷ 1 ∷ 2 ∷ 3 ∷ 4 ∷ replicate 60 0
   -- answer 3 of the run of seven lines
   pub finish-bytes : answerBytes (lastAnswer H (mark ∷ narrow 2 1 ∷ finish ∷ []))
-      ≡ 0 ∷ 1 ∷ 1 ∷ 1 ∷ 3 ∷ 0 ∷ 0 ∷ 0 ∷ 1 ∷ 0 ∷ 0 ∷ 0 ∷ 1 ∷ 0 ∷ 0 ∷ 0 ∷ 1 ∷ 0 ∷ 0 ∷ 0 ∷ replicate 52 0
+      ≡ 0 ∷ 1 ∷ 1 ∷ 1 ∷ 3 ∷ 0 ∷ 1 ∷ 0 ∷ 1 ∷ 0 ∷ 0 ∷ 0 ∷ 1 ∷ 0 ∷ 0 ∷ 0 ∷ 1 ∷ 0 ∷ 0 ∷ 0 ∷ replicate 52 0
+  -- 258 tries
+  pub tries-bytes : answerBytes (tried 258 0 1 0 0 3 []) ≡ 0 ∷ 1 ∷ 0 ∷ 3 ∷ 0 ∷ 0 ∷ 2 ∷ 1 ∷ replicate 64 0
 
 -- ---- valid rows
 -- the state of H at its opening: rows 0 to 3 of sheet 0, rows 0 to 2 of sheet 1
@@ -251,6 +296,7 @@ pub record BooksWellFormed : Type 0 where
   pub h7 : WellFormed H7
   pub h8 : WellFormed H8
   pub h9 : WellFormed H9
+  pub hd : WellFormed HD
   pub ha : WellFormed HA
   pub four : WellFormed (pairs 2 fourRows)
   pub three : WellFormed (pairs 2 ((1 ∷ 0 ∷ []) ∷ threeRows))

@@ -1,19 +1,19 @@
 -- Status, done byte and answers, as values and as bytes; all answers of a list, and the number of accepted orders.
 use mathlib.Core.Path.{_≡_}
 use mathlib.Core.Bool.{Bool, cond, true}
-use mathlib.Core.Option.{Option, none, some}
+use mathlib.Core.Option.{none, some}
 use mathlib.Core.List.{List, [], _∷_, _++_, map}
 use Prim.Native.Nat.{ℕ, zero, suc, _+_, _*_, _^_}
-use lib.Dec.{eqb}
+use lib.Dec.{eqb, leb}
 use lib.ListN.{length, getD, take, drop}
-use Rattle.fields.specs.Bytes.{wordAt, wordBytes}
+use Rattle.fields.specs.Bytes.{halfBytes, wordAt, wordBytes}
 use Rattle.model.specs.Tests.{allBelow, oneIf, tab}
 use Rattle.model.specs.Masks.{maskOf, size}
 use Rattle.model.specs.Stores.{allFilled}
 use Rattle.model.specs.Choices.{pick, Takes, everyChoice}
 use Rattle.model.specs.Books.{Sheet, Book, columnCount, sheetAt, allows}
-use Rattle.model.specs.Solutions.{firstSolution}
-use Rattle.model.specs.Orders.{byKind, kind, Entry, depth, refusal, isAccepted, push, domains}
+use Rattle.model.specs.Search.{Searched, searched}
+use Rattle.model.specs.Orders.{byKind, kind, tryLimit, Entry, depth, refusal, isAccepted, push, domains}
 
 -- ---- status and done
 -- every column holds one value
@@ -43,36 +43,52 @@ pub record Answer : Type 0 where
   pub depth : ℕ
   pub outcome : ℕ
   pub done : ℕ
+  pub tries : ℕ
   pub shown : List ℕ
 
--- what an order shows besides the state
+-- what an order shows besides the state; of a finish with the tries that it made
 pub data Outcome : Type 0 where
   stateOnly : Outcome
-  found : List ℕ → Outcome
-  notFound : Outcome
+  found : List ℕ → ℕ → Outcome
+  notFound : ℕ → Outcome
+  stopped : ℕ → Outcome
 
--- byte 3: "zero, or for an accepted finish 1 found, 2 none"
+-- byte 3: "zero, or for an accepted finish 1 found, 2 none"; request W4: "3, stopped"
 abbrev pub outcomeNumber : Outcome → ℕ
 outcomeNumber stateOnly = 0
-outcomeNumber (found x) = 1
-outcomeNumber notFound = 2
+outcomeNumber (found x t) = 1
+outcomeNumber (notFound t) = 2
+outcomeNumber (stopped t) = 3
 
--- "sixteen domains", the current ones D, or for a finish "the full set there, one bit for each column, or zeros for none"
+-- request W4: "Answer bytes 6 and 7 carry the tries made"
+abbrev pub outcomeTries : Outcome → ℕ
+outcomeTries stateOnly = 0
+outcomeTries (found x t) = t
+outcomeTries (notFound t) = t
+outcomeTries (stopped t) = t
+
+-- "sixteen domains", the current ones D, or for a finish "the full set there, one bit for each column, or zeros for none"; stopped: "the domains are then
+-- zero"
 abbrev pub outcomeMasks : ℕ → List ℕ → Outcome → List ℕ
 outcomeMasks C D stateOnly = D
-outcomeMasks C D (found x) = map (λ v. 2 ^ v) x
-outcomeMasks C D notFound = tab C (λ c. 0)
+outcomeMasks C D (found x t) = map (λ v. 2 ^ v) x
+outcomeMasks C D (notFound t) = tab C (λ c. 0)
+outcomeMasks C D (stopped t) = tab C (λ c. 0)
 
--- what a finish shows
-abbrev pub finishOutcome : Option (List ℕ) → Outcome
-finishOutcome (some x) = found x
-finishOutcome none = notFound
+-- what a finish shows "without a limit"
+abbrev pub unlimited : Searched → Outcome
+unlimited g = elim (g .solution) [ some x ↦ found x (g .tries) | none ↦ notFound (g .tries) ]
 
--- what the order o shows when L stands: an accepted finish what it finds, any other order the state alone
+-- what it shows with the limit n: "stopped, exactly when the answer needs more tries than the limit", and the tries made, "which when stopped are the
+-- limit"
+abbrev pub limited : ℕ → Searched → Outcome
+limited n g = cond (leb (g .tries) n) (unlimited g) (stopped n)
+
+-- what the order o shows when L stands: an accepted finish what its search comes to, any other order the state alone
 unfoldable pub outcome : Book → List Entry → List ℕ → Outcome
 outcome b L o =
     cond (isAccepted b L o)
-    (byKind (kind o) stateOnly stateOnly stateOnly (finishOutcome (firstSolution b (domains b L))) stateOnly)
+    (byKind (kind o) stateOnly stateOnly stateOnly (limited (tryLimit o) (searched b (domains b L))) stateOnly)
     stateOnly
 
 -- the state that the trail L leaves, with a refusal or 0, and what is shown besides
@@ -84,6 +100,7 @@ showing b L r f =
       depth = depth L;
       outcome = outcomeNumber f;
       done = doneOf b (domains b L);
+      tries = outcomeTries f;
       shown = outcomeMasks (columnCount b) (domains b L) f;
     }
 
@@ -125,8 +142,8 @@ acceptedCount b os = acceptedFrom b [] os
 
 -- ---- the 72 bytes of an answer
 --
---     0        1       2      3        4     5  6  7   8 .. 11   12 .. 15        68 .. 71
---     refusal  status  depth  outcome  done  0  0  0   domain 0  domain 1   ..   domain 15
+--     0        1       2      3        4     5  6, 7   8 .. 11   12 .. 15        68 .. 71
+--     refusal  status  depth  outcome  done  0  tries  domain 0  domain 1   ..   domain 15
 --
 -- the first n domains, "zero from C on"
 unfoldable pub domainBytes : List ℕ → ℕ → List ℕ
@@ -136,7 +153,7 @@ domainBytes D (suc n) = domainBytes D n ++ wordBytes (getD D n 0)
 -- an answer as its 72 bytes, as drawn above
 unfoldable pub answerBytes : Answer → List ℕ
 answerBytes a =
-    a .refused ∷ a .status ∷ a .depth ∷ a .outcome ∷ a .done ∷ 0 ∷ 0 ∷ 0 ∷ domainBytes (a .shown) 16
+    a .refused ∷ a .status ∷ a .depth ∷ a .outcome ∷ a .done ∷ 0 ∷ (halfBytes (a .tries) ++ domainBytes (a .shown) 16)
 
 -- "answer i is written into bytes 72 × i to 72 × i + 71": answers as bytes, one after the other
 unfoldable pub allBytes : List Answer → List ℕ

@@ -1,9 +1,9 @@
 -- The demands, so far as they speak of the definitions: what demands 1 and 2 say, how demand 3 compares two lists, and at the end the claims,
--- which `claim1` and `claim2` of proofs/Demands.antt prove. Demand 3 itself speaks of answers and sessions: `ComparedRuns` and `Demand3` (crate promises).
+-- which `claim1`, `claim2` and `claimTries` of proofs/Demands.antt prove. Demand 3 itself speaks of answers and sessions: `ComparedRuns` and `Demand3` (crate promises).
 -- Quoted are the customer's demands and document 01.
 use mathlib.Core.Path.{_≡_}
 use mathlib.Core.Bool.{true, false}
-use mathlib.Core.Logic.{_↔_}
+use mathlib.Core.Logic.{_↔_, _⊎_}
 use mathlib.Core.Option.{none, some}
 use mathlib.Core.List.{List, [], _∷_, map}
 use Prim.Native.Nat.{ℕ, _+_, _^_, _≤_, _<_}
@@ -11,13 +11,14 @@ use lib.Dec.{eqb}
 use lib.ListN.{length}
 use Rattle.fields.specs.Bytes.{byteAt}
 use Rattle.model.specs.Tests.{oneIf, tab}
-use Rattle.model.specs.Stores.{has, emptyStore}
+use Rattle.model.specs.Stores.{has, Within, IsStore, emptyStore, allFilled}
 use Rattle.model.specs.Masks.{bit}
+use Rattle.model.specs.Choices.{Lower}
 use Rattle.model.specs.Books.{Book, columnCount, sheetAt, WellFormed, Stays, Fails}
-use Rattle.model.specs.Solutions.{Solution, FirstSolution, NoSolution, firstSolution}
-use Rattle.model.specs.Search.{searchSolution}
-use Rattle.model.specs.Orders.{kind, argument, mask, zeroPlaces, someWrong, Entry, narrowed, checkpoint, refusal, AcceptedFinish, push, allowed, domains}
-use Rattle.model.specs.Answers.{statusOf, Subsumed, Answer, stateOnly, showing, answer, opening, answersFrom, acceptedCount, answerBytes}
+use Rattle.model.specs.Solutions.{Solution, FirstSolution, NoSolution}
+use Rattle.model.specs.Search.{openColumn, valueOf, after, atOnce, tryEach, searched}
+use Rattle.model.specs.Orders.{kind, argument, mask, tryLimit, zeroPlaces, someWrong, Entry, narrowed, checkpoint, refusal, AcceptedFinish, push, allowed, domains}
+use Rattle.model.specs.Answers.{statusOf, Subsumed, Answer, Outcome, stateOnly, outcomeNumber, unlimited, limited, showing, answer, opening, answersFrom, acceptedCount, answerBytes}
 
 -- ---- demand 1: orders over the book b
 -- "a refused order changes no domain or mark", for the whole trail stays; and "A refused order shows the unchanged state"
@@ -57,34 +58,45 @@ pub record Demand2 (b : Book) (L : List Entry) : Type 0 where
   -- "dead exactly when there is no sound box": status 0, and "every domain is empty"
   pub failed : (statusOf b (domains b L) ≡ 0) ↔ Fails b (allowed b L)
   pub empty : (domains b L ≡ emptyStore (columnCount b)) ↔ Fails b (allowed b L)
-  -- "a finish gives the first full set in the current domains"
-  pub found : (x : List ℕ) → (firstSolution b (domains b L) ≡ some x) ↔ FirstSolution b (domains b L) x
+  -- "a finish gives the first full set in the current domains", by a search without a limit,
+  pub found : (x : List ℕ) → ((searched b (domains b L)) .solution ≡ some x) ↔ FirstSolution b (domains b L) x
   -- "none exactly when there is none"
-  pub not-found : (firstSolution b (domains b L) ≡ none) ↔ NoSolution b (domains b L)
-  -- "a dead session …, and its finish says none"
-  pub failed-finish : Fails b (allowed b L) → firstSolution b (domains b L) ≡ none
-  -- the search of document 01 finds just that
-  pub searched : searchSolution b (domains b L) ≡ firstSolution b (domains b L)
+  pub not-found : ((searched b (domains b L)) .solution ≡ none) ↔ NoSolution b (domains b L)
+  -- "a dead session …, and its finish says none", with no try; a decided one is found with none
+  pub failed-finish : Fails b (allowed b L) → searched b (domains b L) ≡ atOnce none
+  pub decided-finish : statusOf b (domains b L) ≡ 2 → searched b (domains b L) ≡ atOnce (some (map valueOf (domains b L)))
 
 -- the answer a shows the state that the trail L leaves
 pub record ShowsState (b : Book) (L : List Entry) (a : Answer) : Type 0 where
   pub stays : (c v : ℕ) → (has (a .shown) c v ≡ true) ↔ Stays b (allowed b L) c v
   pub failed : (a .status ≡ 0) ↔ Fails b (allowed b L)
   pub outcome : a .outcome ≡ 0
+  pub tries : a .tries ≡ 0
 
--- the answer a is that of a finish when L stands: "1 found, 2 none", "one bit for each column, or zeros for none"
-pub record ShowsFinish (b : Book) (L : List Entry) (a : Answer) : Type 0 where
+-- the answer a shows what there is: "1 found, 2 none", "one bit for each column, or zeros for none"
+pub record ShowsFirst (b : Book) (L : List Entry) (a : Answer) : Type 0 where
   pub found : (a .outcome ≡ 1) ↔ ((x : List ℕ) × Solution b (domains b L) x)
   pub first : (x : List ℕ) → FirstSolution b (domains b L) x → a .shown ≡ map (λ v. 2 ^ v) x
   pub not-found : (a .outcome ≡ 2) ↔ NoSolution b (domains b L)
   pub zeros : NoSolution b (domains b L) → a .shown ≡ tab (columnCount b) (λ c. 0)
+
+-- the answer a is that of a finish with the limit n when L stands. Quoted is request W4
+pub record ShowsFinish (b : Book) (L : List Entry) (n : ℕ) (a : Answer) : Type 0 where
+  -- "Byte 3 is 3, stopped, exactly when the answer needs more tries than the limit; the domains are then zero."
+  pub stopped : (a .outcome ≡ 3) ↔ (n < (searched b (domains b L)) .tries)
+  pub stopped-zeros : a .outcome ≡ 3 → a .shown ≡ tab (columnCount b) (λ c. 0)
+  -- "the tries made, which when stopped are the limit"
+  pub stopped-tries : a .outcome ≡ 3 → a .tries ≡ n
+  pub tries : (a .outcome ≡ 3 → ⊥) → a .tries ≡ (searched b (domains b L)) .tries
+  -- "Demand 2's sentence on the finish holds for every finish that isn't stopped."
+  pub not-stopped : (a .outcome ≡ 3 → ⊥) → ShowsFirst b L a
   pub failed : (a .status ≡ 0) ↔ Fails b (allowed b L)
 
 -- "at every answer": the opening, any order but an accepted finish, and an accepted finish
 pub record EveryAnswer (b : Book) : Type 0 where
   pub opened : ShowsState b [] (opening b)
   pub ordered : (L : List Entry) (o : List ℕ) → (AcceptedFinish b L o → ⊥) → ShowsState b (push b L o) (answer b L o)
-  pub finished : (L : List Entry) (o : List ℕ) → AcceptedFinish b L o → ShowsFinish b L (answer b L o)
+  pub finished : (L : List Entry) (o : List ℕ) → AcceptedFinish b L o → ShowsFinish b L (tryLimit o) (answer b L o)
   -- "mask 0 is accepted and makes the session dead"; that it is accepted: `Demand1 .mask-0`
   pub mask-0 : (L : List Entry) (o : List ℕ) → kind o ≡ 1 → refusal b L o ≡ 0 → mask o ≡ 0 → Fails b (allowed b (push b L o))
 
@@ -101,12 +113,39 @@ pub record DoneExactly (b : Book) (D : List ℕ) (status done : ℕ) : Type 0 wh
 pub record SameAllowed (b : Book) (L M : List Entry) : Type 0 where
   pub at : (c v : ℕ) → has (allowed b L) c v ≡ has (allowed b M) c v
 
--- two answers to a finish "agree in bytes 1, 3, 4 and 8 to 71"
+-- two answers to a finish "agree in bytes 1, 3, 4 and 8 to 71"; request W4: "equal tries", which are bytes 6 and 7
 pub record SameFinish (a d : List ℕ) : Type 0 where
   pub byte-1 : byteAt a 1 ≡ byteAt d 1
   pub byte-3 : byteAt a 3 ≡ byteAt d 3
   pub byte-4 : byteAt a 4 ≡ byteAt d 4
-  pub bytes-8-to-71 : (i : ℕ) → 8 ≤ i → i ≤ 71 → byteAt a i ≡ byteAt d i
+  pub bytes-6-to-71 : (i : ℕ) → 6 ≤ i → i ≤ 71 → byteAt a i ≡ byteAt d i
+
+-- ---- tries for a finish
+-- the search of a store, one column at a time, with no depth to it
+pub record SearchSteps (b : Book) (D : List ℕ) : Type 0 where
+  -- a try that ends dead goes no further
+  pub failed : allFilled (columnCount b) D ≡ false → searched b D ≡ atOnce none
+  -- "until every column is single"
+  pub single : allFilled (columnCount b) D ≡ true → openColumn (columnCount b) D ≡ columnCount b → searched b D ≡ atOnce (some (map valueOf D))
+  -- "The search sets the lowest column that isn't single to each of its values in rising order and settles"
+  pub many : allFilled (columnCount b) D ≡ true → openColumn (columnCount b) D < columnCount b
+      → searched b D ≡ tryEach 32 (has D (openColumn (columnCount b) D)) (λ v. searched b (after b D (openColumn (columnCount b) D) v))
+
+-- what a finish with the limit n shows when L stands
+abbrev pub finishing : Book → List Entry → ℕ → Outcome
+finishing b L n = limited n (searched b (domains b L))
+
+-- quoted is request W4
+pub record TriesOfFinish (b : Book) : Type 0 where
+  -- "A larger limit never changes found or none, nor the set", nor the tries
+  pub larger-limit : (L : List Entry) (n m : ℕ) → n ≤ m → (outcomeNumber (finishing b L n) ≡ 3 → ⊥) → finishing b L m ≡ finishing b L n
+  -- a limit that is large enough is none
+  pub enough : (L : List Entry) (n : ℕ) → (searched b (domains b L)) .tries ≤ n → finishing b L n ≡ unlimited (searched b (domains b L))
+  -- "two lists with equal allowed values give equal tries and outcome at equal limits, stopped for both included"
+  pub same-finish : (L M : List Entry) → SameAllowed b L M → (n : ℕ) → finishing b L n ≡ finishing b M n
+  -- "a narrower and a wider list are compared by the first full sets of document 01, without a limit"
+  pub wider-first : (L M : List Entry) → Within (allowed b L) (allowed b M) → (x : List ℕ) → (searched b (domains b L)) .solution ≡ some x
+      → (y : List ℕ) × ((searched b (domains b M)) .solution ≡ some y) × ((y ≡ x) ⊎ Lower y x)
 
 -- ---- the claims
 abbrev pub Claim1 : Type 0
@@ -114,3 +153,6 @@ Claim1 = (b : Book) → Demand1 b
 
 abbrev pub Claim2 : Type 0
 Claim2 = (b : Book) → WellFormed b → ((L : List Entry) → Demand2 b L) × EveryAnswer b
+
+abbrev pub ClaimTries : Type 0
+ClaimTries = (b : Book) → WellFormed b → TriesOfFinish b × ((D : List ℕ) → IsStore (columnCount b) D → SearchSteps b D)

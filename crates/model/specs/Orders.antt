@@ -21,20 +21,25 @@ argument o = byteAt o 1
 abbrev pub mask : List ℕ → ℕ
 mask o = wordAt o 4
 
+-- request W4: "Bytes 4 to 7 of a finish become a limit from 1 to 65,535; 0 is read as 65,535"
+abbrev pub tryLimit : List ℕ → ℕ
+tryLimit o = cond (eqb (wordAt o 4) 0) 65535 (wordAt o 4)
+
 -- the one of five that goes with the kind: narrow 1, mark 2, back 3, finish 4, any other
 abbrev pub byKind : {A : Type 0} → ℕ → A → A → A → A → A → A
 byKind k narrow mark back finish other =
     cond (eqb k 1) narrow (cond (eqb k 2) mark (cond (eqb k 3) back (cond (eqb k 4) finish other)))
 
--- the places of an order that must be zero, bit i for byte i: "byte 2 or 3", "any of bytes 1 to 7", "any of bytes 2 to 7", "any of bytes 1 to 7"
+-- the places of an order that must be zero, bit i for byte i: "byte 2 or 3", "any of bytes 1 to 7", "any of bytes 2 to 7", and of a finish "only bytes
+-- 1 to 3"
 --
 --     byte      0  1  2  3  4  5  6  7
 --     narrow    .  .  0  0  .  .  .  .     4 + 8
 --     mark      .  0  0  0  0  0  0  0     2 + 4 + .. + 128
 --     back      .  .  0  0  0  0  0  0     4 + 8 + .. + 128
---     finish    .  0  0  0  0  0  0  0     2 + 4 + .. + 128
+--     finish    .  0  0  0  .  .  .  .     2 + 4 + 8
 abbrev pub zeroPlaces : ℕ → ℕ
-zeroPlaces k = byKind k 12 254 252 254 0
+zeroPlaces k = byKind k 12 254 252 14 0
 
 -- byte i is at one of these places, and isn't zero
 unfoldable pub wrongPlace : ℕ → List ℕ → ℕ → Bool
@@ -89,17 +94,21 @@ markCauses d = (refuse 23 if eqb d 16) ∷ []
 abbrev pub backCauses : ℕ → List ℕ → List Cause
 backCauses d o = (refuse 24 if eqb (argument o) 0 || ltb d (argument o)) ∷ []
 
+-- a finish, request W4: "27 for a larger limit, after 25"
+abbrev pub finishCauses : List ℕ → List Cause
+finishCauses o = (refuse 27 if ltb 65535 (tryLimit o)) ∷ []
+
 -- "Other kinds are refused with 20, before the rest": of their bytes none is looked at
 abbrev pub otherCauses : List Cause
 otherCauses = (refuse 20 if true) ∷ []
 
 -- "An order's refusal goes by its bytes, the book and this list only": the number, or 0 where the order is accepted. Each of the four kinds is first
--- "Refused with 25 if" a byte that must be zero "isn't zero"; a finish has no other cause
+-- "Refused with 25 if" a byte that must be zero "isn't zero"
 unfoldable pub refusal : Book → List Entry → List ℕ → ℕ
 refusal b L o =
     firstCause
     ((refuse 25 if someWrong (zeroPlaces (kind o)) o)
-    ∷ byKind (kind o) (narrowCauses b o) (markCauses (depth L)) (backCauses (depth L) o) [] otherCauses)
+    ∷ byKind (kind o) (narrowCauses b o) (markCauses (depth L)) (backCauses (depth L) o) (finishCauses o) otherCauses)
 
 -- the order is accepted
 abbrev pub isAccepted : Book → List Entry → List ℕ → Bool

@@ -1,14 +1,12 @@
 -- Solutions of a book (document 01: full sets), and the first of them.
 use mathlib.Core.Path.{_≡_}
-use mathlib.Core.Bool.{Bool, true}
+use mathlib.Core.Bool.{true}
 use mathlib.Core.Logic.{_⊎_}
-use mathlib.Core.Option.{Option}
 use mathlib.Core.List.{List, List·Memᴰ}
 use Prim.Native.Nat.{ℕ, _<_}
 use lib.ListN.{length, getD}
-use Rattle.model.specs.Tests.{allIn}
 use Rattle.model.specs.Stores.{has}
-use Rattle.model.specs.Choices.{pick, Lower, firstChoice}
+use Rattle.model.specs.Choices.{pick, Lower}
 use Rattle.model.specs.Books.{Sheet, Book, columnCount, allows}
 
 -- a solution in B: "A full set takes one value of each current domain, and its values in each sheet's columns form a row", or match one with 255:
@@ -26,12 +24,3 @@ pub record FirstSolution (b : Book) (B x : List ℕ) : Type 0 where
 -- there is no solution in B
 pub record NoSolution (b : Book) (B : List ℕ) : Type 0 where
   pub none : (x : List ℕ) → Solution b B x → ⊥
-
--- ---- the same as a computation
--- every sheet allows the values of x in its columns
-unfoldable pub formsRows : Book → List ℕ → Bool
-formsRows b x = allIn (b .sheets) (λ s. allows s (pick x (s .columns)))
-
--- the first solution in B, or none: that it is `FirstSolution` is `Demand2 .found` and `.not-found` (Demands)
-unfoldable pub firstSolution : Book → List ℕ → Option (List ℕ)
-firstSolution b B = firstChoice B (formsRows b)

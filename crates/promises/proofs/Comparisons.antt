@@ -1,21 +1,23 @@
 -- Two whole lists compared: the claims of specs/Promises.antt about two runs, and of specs/Comparisons.antt, proved. Assumes nothing.
 use mathlib.Core.Path.{_∙_, _≡_, ap, refl, sym}
 use mathlib.Core.Bool.{false}
+use mathlib.Core.Logic.{_⊎_}
 use mathlib.Core.List.{List, [], _++_}
 use Prim.Native.Nat.{_%_, _+_, _/_, _<_, _^_, ℕ}
 use native.Mathlib.Omega.{arith}
 use lib.ListN.{getD, length, length-append, replicate, length-replicate}
 use lib.Seq.{ext-getD}
 use Rattle.fields.specs.Bytes.{byteAt}
-use Rattle.model.specs.Answers.{answer, answerAt, answerBytes, doneOf, domainIn, lastAnswer, opening, stateOnly, statusOf}
+use Rattle.model.specs.Answers.{Answer, answer, answerAt, answerBytes, doneOf, domainIn, lastAnswer, opening, outcomeNumber, showing, stateOnly, statusOf}
 use Rattle.model.specs.Books.{Book, WellFormed, columnCount}
-use Rattle.model.specs.Demands.{ShowsFinish}
-use Rattle.model.specs.Orders.{AcceptedFinish, Entry, domains, kind, refusal}
+use Rattle.model.specs.Choices.{Lower}
+use Rattle.model.specs.Demands.{SameFinish, ShowsFinish, ShowsFirst, finishing}
+use Rattle.model.specs.Orders.{AcceptedFinish, Entry, allowed, domains, kind, refusal, tryLimit}
 use Rattle.model.specs.Search.{valueOf}
 use Rattle.model.specs.Solutions.{FirstSolution, Solution}
 use Rattle.model.specs.Stores.{Within, has}
-use Rattle.model.proofs.Answers.{Tells, bytes-1, bytes-3, bytes-4, domain-back, last-tells, showing-tells, shown-small}
-use Rattle.model.proofs.Demands.{claim1, claim2, finish-same, same-domains, wider-first}
+use Rattle.model.proofs.Answers.{Tells, answer-finish, bytes-1, bytes-3, bytes-4, domain-back, last-tells, showing-tells, shown-small}
+use Rattle.model.proofs.Demands.{claim1, claim2, claimTries, finish-same, same-domains, wider-first}
 use Rattle.model.proofs.Refusals.{refusal-finish}
 use Rattle.model.proofs.Search.{getD-map, value-pow}
 use Rattle.model.proofs.Solutions.{first-same, has-first, solution-mono}
@@ -29,7 +31,7 @@ use Rattle.sessions.specs.Lists.{ordersOf}
 use Rattle.sessions.specs.declared.session.Session.{Session}
 use Rattle.sessions.proofs.Lists.{orders-append}
 use Rattle.promises.specs.Comparisons.{BothRan, Demand3, ListRan, current}
-use Rattle.promises.specs.Promises.{EndsWith, NarrowerEnd, NextFinish, RunsCompare, setIn, standingAfter}
+use Rattle.promises.specs.Promises.{AcceptedNext, EndsWith, EqualEnds, NarrowerEnd, NextFinish, RunsCompare, setIn, standingAfter}
 use Rattle.runs.specs.Results.{RightInput, spaceNeeded, wrongList}
 use Rattle.runs.specs.Runs.{RanTo}
 use Rattle.promises.proofs.Promises.{formed}
@@ -81,55 +83,89 @@ module _ (b : List ℕ) where
     finish-of L z = record { of-kind = k; accepted = z }
 
     module _ (p : WellFormed bk) (L : List Entry) {a : List ℕ} (e : a ≡ answerBytes (answer bk L f)) (z : refusal bk L f ≡ 0) where
-      shows : ShowsFinish bk L (answer bk L f)
+      shows : ShowsFinish bk L (tryLimit f) (answer bk L f)
       shows = claim2 bk p .1 .finished L f (finish-of L z)
 
       third : byteAt a 3 ≡ (answer bk L f) .outcome
       third = ap (λ (l : List ℕ). byteAt l 3) e ∙ bytes-3 (answer bk L f)
 
-      shows-found : byteAt a 3 ≡ 1 → (x : List ℕ) × Solution bk (domains bk L) x
-      shows-found y = shows .found .0 (sym third ∙ y)
+      -- it isn't stopped: what is shown is what there is
+      module _ (ended : byteAt a 3 ≡ 3 → ⊥) where
+        first : ShowsFirst bk L (answer bk L f)
+        first = shows .not-stopped (λ y. ended (third ∙ y))
 
-      found-shows : (x : List ℕ) → Solution bk (domains bk L) x → byteAt a 3 ≡ 1
-      found-shows x s = third ∙ shows .found .1 (x, s)
+        -- the set shown is the first solution
+        set-first : (x : List ℕ) → FirstSolution bk (domains bk L) x → setIn b a ≡ x
+        set-first x s =
+            ext-getD 0 (setIn b a) x (long ∙ sym (s .solution .size)) (λ c l. let m : c < columnCount bk = rw long at l in getD-tab 0 (columnCount bk) _ c m ∙ at c m)
+          where
+            long : length (setIn b a) ≡ columnCount bk
+            long = length-tab (columnCount bk) (λ c. valueOf (domainIn a c))
 
-      -- the set shown is the first solution
-      set-first : (x : List ℕ) → FirstSolution bk (domains bk L) x → setIn b a ≡ x
-      set-first x s =
-          ext-getD 0 (setIn b a) x (long ∙ sym (s .solution .size)) (λ c l. let m : c < columnCount bk = rw long at l in getD-tab 0 (columnCount bk) _ c m ∙ at c m)
-        where
-          long : length (setIn b a) ≡ columnCount bk
-          long = length-tab (columnCount bk) (λ c. valueOf (domainIn a c))
-
-          at : (c : ℕ) → c < columnCount bk → valueOf (domainIn a c) ≡ getD x c 0
-          at c m =
-              ap valueOf
-              (ap (λ (l : List ℕ). domainIn l c) e
-              ∙ domain-back (answer bk L f) c (omega (arith, p .few-columns)) (shown-small bk L f c)
-              ∙ ap (λ (D : List ℕ). getD D c 0) (shows .first x s)
-              ∙ getD-map (λ v. 2 ^ v) x c (rw (s .solution .size) m))
-              ∙ value-pow (getD x c 0) (in-store (columnCount bk) (domains bk L) (domains-store bk L) c (getD x c 0) (s .solution .takes c m) .1)
+            at : (c : ℕ) → c < columnCount bk → valueOf (domainIn a c) ≡ getD x c 0
+            at c m =
+                ap valueOf
+                (ap (λ (l : List ℕ). domainIn l c) e
+                ∙ domain-back (answer bk L f) c (omega (arith, p .few-columns)) (shown-small bk p L f c)
+                ∙ ap (λ (D : List ℕ). getD D c 0) (first .first x s)
+                ∙ getD-map (λ v. 2 ^ v) x c (rw (s .solution .size) m))
+                ∙ value-pow (getD x c 0) (in-store (columnCount bk) (domains bk L) (domains-store bk L) c (getD x c 0) (s .solution .takes c m) .1)
 
 -- ---- demand 3, of the answers
+-- the wider's first solution beside the narrower's
+firsts : (b : List ℕ) (L M : List Entry) → Within (allowed (bookOf b) L) (allowed (bookOf b) M) → (v : List ℕ) → Solution (bookOf b) (domains (bookOf b) L) v
+    → (w : List ℕ) × (z : List ℕ) × FirstSolution (bookOf b) (domains (bookOf b) L) w × FirstSolution (bookOf b) (domains (bookOf b) M) z × ((z ≡ w) ⊎ Lower z w)
+firsts b L M w v f =
+    let u = has-first (bookOf b) (domains (bookOf b) L) (domains-store (bookOf b) L) v f in
+    let z = wider-first (bookOf b) L M w (u .0) (u .1) in
+    (u .0, z .0, u .1, z .1, z .2)
+
+module _ (b x : List ℕ) {f a : List ℕ} where
+  -- the answer to the finish that is given next, and that it is accepted
+  answered : NextFinish b x f a → a ≡ answerBytes (answer (bookOf b) (standingAfter b x) f)
+  answered n = next-last b x f (n .bytes) (n .ends)
+
+  let-in : AcceptedNext b x f a → refusal (bookOf b) (standingAfter b x) f ≡ 0
+  let-in n = sym (says-refusal b f (n .next .of-kind) (standingAfter b x) (answered (n .next))) ∙ n .accepted
+
+  taken : AcceptedNext b x f a → AcceptedFinish (bookOf b) (standingAfter b x) f
+  taken n = finish-of b f (n .next .of-kind) (standingAfter b x) (let-in n)
+
+  well : NextFinish b x f a → WellFormed (bookOf b)
+  well n = formed b (x ++ f) (length (n .ends .space)) (n .ends .accepted)
+
+  -- byte 3 is the number of what is shown
+  unstopped : AcceptedNext b x f a → (byteAt a 3 ≡ 3 → ⊥) → outcomeNumber (finishing (bookOf b) (standingAfter b x) (tryLimit f)) ≡ 3 → ⊥
+  unfolding showing
+  unstopped n k e =
+      k
+      (third b f (n .next .of-kind) (well (n .next)) (standingAfter b x) (answered (n .next)) (let-in n)
+      ∙ ap (λ (r : Answer). r .outcome) (answer-finish (bookOf b) (standingAfter b x) f (taken n))
+      ∙ e)
+
 pub runsCompare : RunsCompare
 runsCompare b x y = record {
   same-status = λ h a d p q. says-status b p ∙ ap (statusOf (bookOf b)) (same-domains (bookOf b) L M h) ∙ sym (says-status b q);
   same-done = λ h a d p q. says-done b p ∙ ap (doneOf (bookOf b)) (same-domains (bookOf b) L M h) ∙ sym (says-done b q);
-  same-refusal = λ f a d n.
-      says-refusal b f (n .of-kind) L (left n) ∙ refused-alike b f (n .of-kind) L M ∙ sym (says-refusal b f (n .of-kind) M (right n));
-  same-finish = λ h f a d n z.
-      rw (left n, right n)
-      (finish-same (bookOf b) L M f (same-domains (bookOf b) L M h) (finish-of b f (n .of-kind) L (accepted n z)) (finish-of b f (n .of-kind) M (accepted′ n z)));
-  wider-found = λ w f a d n z y.
-      let s = shows-found b f (n .of-kind) (well n) L (left n) (accepted n z) y in
-      found-shows b f (n .of-kind) (well n) M (right n) (accepted′ n z) (s .0)
-      (solution-mono (bookOf b) (domains (bookOf b) L) (domains (bookOf b) M) (s .0) (domains-mono (bookOf b) L M w) (s .1));
-  wider-first = λ w f a d n z y.
-      let s = shows-found b f (n .of-kind) (well n) L (left n) (accepted n z) y in
-      let u = has-first (bookOf b) (domains (bookOf b) L) (domains-store (bookOf b) L) (s .0) (s .1) in
-      let v = wider-first (bookOf b) L M w (u .0) (u .1) in
-      rw (set-first b f (n .of-kind) (well n) L (left n) (accepted n z) (u .0) (u .1), set-first b f (n .of-kind) (well n) M (right n) (accepted′ n z) (v .0) (v .1))
-      (v .2);
+  same-refusal = λ f a d n m.
+      says-refusal b f (n .of-kind) L (answered b x n) ∙ refused-alike b f (n .of-kind) L M ∙ sym (says-refusal b f (n .of-kind) M (answered b y m));
+  same-finish = λ h f g a d n m e.
+      alike h n m (claimTries (bookOf b) (well b x (n .next)) .0 .same-finish L M h (tryLimit f) ∙ ap (finishing (bookOf b) M) e);
+  larger-limit = λ h f g a d n m l k.
+      let c = claimTries (bookOf b) (well b x (n .next)) .0 in
+      alike h n m (sym (c .larger-limit L (tryLimit f) (tryLimit g) l (unstopped b x n k)) ∙ c .same-finish L M h (tryLimit g));
+  wider-first = λ w v s. firsts b L M w v s;
+  wider-found = λ w f g a d n m i k.
+      let s = first b f (n .next .of-kind) (well b x (n .next)) L (answered b x (n .next)) (let-in b x n) (λ e. one-three (sym i ∙ e)) in
+      let v = s .found .0 (sym (third b f (n .next .of-kind) (well b x (n .next)) L (answered b x (n .next)) (let-in b x n)) ∙ i) in
+      let u = firsts b L M w (v .0) (v .1) in
+      let t = first b g (m .next .of-kind) (well b y (m .next)) M (answered b y (m .next)) (let-in b y m) k in (
+        third b g (m .next .of-kind) (well b y (m .next)) M (answered b y (m .next)) (let-in b y m) ∙ t .found .1 (u .1, u .3 .solution),
+        rw (
+          set-first b f (n .next .of-kind) (well b x (n .next)) L (answered b x (n .next)) (let-in b x n) (λ e. one-three (sym i ∙ e)) (u .0) (u .2),
+          set-first b g (m .next .of-kind) (well b y (m .next)) M (answered b y (m .next)) (let-in b y m) k (u .1) (u .3),
+        ) (u .4),
+      );
 }
   where
     L : List Entry
@@ -138,20 +174,14 @@ runsCompare b x y = record {
     M : List Entry
     M = standingAfter b y
 
-    left : {f a d : List ℕ} → NextFinish b x y f a d → a ≡ answerBytes (answer (bookOf b) L f)
-    left {f} n = next-last b x f (n .bytes) (n .left)
+    one-three : _≡_ {A = ℕ} 1 3 → ⊥
+    one-three e = omega arith
 
-    right : {f a d : List ℕ} → NextFinish b x y f a d → d ≡ answerBytes (answer (bookOf b) M f)
-    right {f} n = next-last b y f (n .bytes) (n .right)
-
-    accepted : {f a d : List ℕ} → NextFinish b x y f a d → byteAt a 0 ≡ 0 → refusal (bookOf b) L f ≡ 0
-    accepted {f} n z = sym (says-refusal b f (n .of-kind) L (left n)) ∙ z
-
-    accepted′ : {f a d : List ℕ} → NextFinish b x y f a d → byteAt a 0 ≡ 0 → refusal (bookOf b) M f ≡ 0
-    accepted′ {f} n z = refused-alike b f (n .of-kind) M L ∙ accepted n z
-
-    well : {f a d : List ℕ} → NextFinish b x y f a d → WellFormed (bookOf b)
-    well {f} n = formed b (x ++ f) (length (n .left .space)) (n .left .accepted)
+    alike : {f g a d : List ℕ} → EqualEnds b x y → AcceptedNext b x f a → AcceptedNext b y g d
+        → finishing (bookOf b) L (tryLimit f) ≡ finishing (bookOf b) M (tryLimit g) → SameFinish a d
+    alike {f} {g} h n m e =
+        rw (answered b x (n .next), answered b y (m .next))
+        (finish-same (bookOf b) L M f g (same-domains (bookOf b) L M h) (taken b x n) (taken b y m) e)
 
 -- ---- demand 3, whole
 module _ (b x y : List ℕ) {s t : Session} (p : Holds b (standingAfter b x) s) (q : Holds b (standingAfter b y) t) where
@@ -180,13 +210,12 @@ module _ (b x y : List ℕ) {s t : Session} (p : Holds b (standingAfter b x) s) 
         p .current .holds .domain c ∙ ap (λ (D : List ℕ). getD D c 0) (same-domains (bookOf b) L M h) ∙ sym (q .current .holds .domain c);
     narrower-within = inner;
     wider-first = λ w v f.
-        let u = has-first (bookOf b) (domains (bookOf b) L) (domains-store (bookOf b) L) v (solution-mono (bookOf b) (current s) (domains (bookOf b) L) v (to p) f) in
-        let z = wider-first (bookOf b) L M w (u .0) (u .1) in (
+        let u = firsts b L M w v (solution-mono (bookOf b) (current s) (domains (bookOf b) L) v (to p) f) in (
           u .0,
-          z .0,
-          first-same (bookOf b) (domains (bookOf b) L) (current s) (u .0) (from p) (to p) (u .1),
-          first-same (bookOf b) (domains (bookOf b) M) (current t) (z .0) (from q) (to q) (z .1),
-          z .2,
+          u .1,
+          first-same (bookOf b) (domains (bookOf b) L) (current s) (u .0) (from p) (to p) (u .2),
+          first-same (bookOf b) (domains (bookOf b) M) (current t) (u .1) (from q) (to q) (u .3),
+          u .4,
         );
   }
 

@@ -1,5 +1,6 @@
 -- The claims of specs/Promises.antt about one run, proved. Assumes nothing.
 use mathlib.Core.Path.{_∙_, _≡_, ap, refl, subst, sym}
+use mathlib.Core.Bool.{false, true}
 use mathlib.Core.Logic.{_↔_, _⊎_, inl, inr}
 use mathlib.Core.Option.{none, some}
 use mathlib.Core.List.{List, []}
@@ -9,28 +10,28 @@ use native.Mathlib.Omega.{arith}
 use lib.Dec.{eqb}
 use lib.ListN.{drop, getD, length}
 use lib.Seq.{getD-append-add, getD-drop}
+use borrow.Author.Tests.{eqb-false, eqb-true}
 use Rattle.fields.specs.Bytes.{byteAt}
 use Rattle.model.specs.Answers.{Answer, acceptedCount, acceptedFrom, allBytes, answer, answerAt, answerBytes, answers, opening, showing, stateOnly}
 use Rattle.model.specs.Books.{Book, WellFormed, columnCount}
-use Rattle.model.specs.Demands.{ShowsFinish, ShowsState}
+use Rattle.model.specs.Demands.{ShowsFinish, ShowsFirst, ShowsState}
 use Rattle.model.specs.Masks.{bit}
-use Rattle.model.specs.Orders.{AcceptedFinish, Entry, domains, isAccepted, kind, push, refusal, trail, trailFrom}
-use Rattle.model.specs.Solutions.{firstSolution}
+use Rattle.model.specs.Orders.{AcceptedFinish, Entry, domains, isAccepted, kind, push, refusal, trail, trailFrom, tryLimit}
+use Rattle.model.specs.Search.{searched}
 use Rattle.model.specs.Stores.{has}
 use Rattle.model.specs.Tests.{count, oneIf, sum, tab}
 use Rattle.model.proofs.Choices.{opt}
-use Rattle.model.proofs.Answers.{Tells, answer-tells, bytes-0, bytes-1, bytes-2, bytes-3, bytes-4, bytes-zero, domain-back, map-out, showing-tells, shown-small}
+use Rattle.model.proofs.Answers.{Tells, answer-tells, bytes-0, bytes-1, bytes-2, bytes-3, bytes-4, bytes-5, bytes-6-7, domain-back, map-out, showing-tells, shown-small, tries-small}
 use Rattle.model.proofs.Demands.{claim1, claim2, doneExactly}
 use Rattle.model.proofs.Refusals.{push-finish, push-refused}
 use Rattle.model.proofs.Search.{getD-map}
-use Rattle.model.proofs.Solutions.{found-iff, none-iff}
-use Rattle.model.proofs.Tests.{below, getD-tab, getD-tab-out, sum-last, sum-same}
+use Rattle.model.proofs.Tests.{below, either, getD-tab, getD-tab-out, sum-last, sum-same}
 use Rattle.model.proofs.Trails.{accepted-snoc, domains-store, trail-snoc}
 use Rattle.book.specs.Decoding.{bookOf}
 use Rattle.book.proofs.Decoding.{accepted-right, right-formed}
 use Rattle.sessions.specs.Lists.{orderAt, ordersOf, ordersTo}
 use Rattle.sessions.proofs.Lists.{orders-more, tab-last}
-use Rattle.promises.specs.Promises.{AcceptedRun, AcceptedRuns, AnswerShowsFinish, AnswerShowsState, AnswerTells, AnyRun, AnyRuns, IsFinish, standing}
+use Rattle.promises.specs.Promises.{AcceptedRun, AcceptedRuns, AnswerShowsFinish, AnswerShowsFirst, AnswerShowsState, AnswerTells, AnyRun, AnyRuns, IsFinish, standing}
 use Rattle.runs.specs.Results.{runRefusal, runResult, runSpace, spaceNeeded}
 use Rattle.answers.specs.Spaces.{written}
 use Rattle.runs.proofs.Results.{accepted-number, result-accepted, result-small, right-input, space-accepted, space-refused, zero-or}
@@ -48,46 +49,61 @@ module _ (B : Book) (p : WellFormed B) (L : List Entry) (a : Answer) where
         deep = bytes-2 a ∙ t .depth;
         done = bytes-4 a ∙ t .done;
         done-exactly = rw (q, bytes-4 a ∙ t .done) (doneExactly B L);
-        zero-bytes = bytes-zero a;
+        byte-5 = bytes-5 a;
         failed = (λ y. w .0 (sym q ∙ y), λ x. q ∙ w .1 x);
       }
 
-  module _ (small : (c : ℕ) → getD (a .shown) c 0 < 2 ^ 32) where
+  module _ (small : (c : ℕ) → getD (a .shown) c 0 < 2 ^ 32) (few : a .tries < 65536) where
     reads-state : ShowsState B L a → AnswerShowsState B L (answerBytes a)
     unfolding has
-    reads-state s = record {
-      outcome = bytes-3 a ∙ s .outcome;
-      stays = λ c v l.
-          let d = domain-back a c l (small c) in (λ y. s .stays c v .0 (sym (ap (bit v) d) ∙ y), λ y. ap (bit v) d ∙ s .stays c v .1 y);
-    }
+    reads-state s =
+        let t = bytes-6-7 a few ∙ s .tries in
+        record {
+          outcome = bytes-3 a ∙ s .outcome;
+          no-tries = (omega (arith, t), omega (arith, t));
+          stays = λ c v l.
+              let d = domain-back a c l (small c) in (λ y. s .stays c v .0 (sym (ap (bit v) d) ∙ y), λ y. ap (bit v) d ∙ s .stays c v .1 y);
+        }
 
     third : {X : Type 0} (k : ℕ) → (a .outcome ≡ k) ↔ X → (byteAt (answerBytes a) 3 ≡ k) ↔ X
     third k w = (λ y. w .0 (sym (bytes-3 a) ∙ y), λ x. bytes-3 a ∙ w .1 x)
 
-    reads-finish : ShowsFinish B L a → AnswerShowsFinish B L (answerBytes a)
-    reads-finish s = record {
+    -- no column of none
+    zero-masks : a .shown ≡ tab (columnCount B) (λ c. 0) → (c : ℕ) → getD (a .shown) c 0 ≡ 0
+    zero-masks e c = ap (λ (D : List ℕ). getD D c 0) e ∙ go (below c (columnCount B))
+      where
+        go : (c < columnCount B) ⊎ (columnCount B ≤ c) → _≡_ {A = ℕ} (getD (tab (columnCount B) (λ c. 0)) c 0) 0
+        go (inl l) = getD-tab {A = ℕ} 0 (columnCount B) (λ c. 0) c l
+        go (inr l) = getD-tab-out (columnCount B) (λ c. 0) c l
+
+    reads-first : ShowsFirst B L a → AnswerShowsFirst B L (answerBytes a)
+    reads-first s = record {
       found = third 1 (s .found);
       not-found = third 2 (s .not-found);
       first = λ x f c l.
           domain-back a c (omega (arith, p .few-columns)) (small c)
           ∙ ap (λ (D : List ℕ). getD D c 0) (s .first x f)
           ∙ getD-map (λ v. 2 ^ v) x c (rw (f .solution .size) l);
-      past = λ c k l. domain-back a c l (small c) ∙ past-masks c k (opt (firstSolution B (domains B L)));
-      zeros = λ n c l. domain-back a c l (small c) ∙ ap (λ (D : List ℕ). getD D c 0) (s .zeros n) ∙ no-masks c (below c (columnCount B));
+      zeros = λ n c l. domain-back a c l (small c) ∙ zero-masks (s .zeros n) c;
+    }
+
+    reads-finish : {n : ℕ} → ShowsFinish B L n a → AnswerShowsFinish B L n (answerBytes a)
+    reads-finish s = record {
+      stopped = third 3 (s .stopped);
+      stopped-zeros = λ e c l. domain-back a c l (small c) ∙ zero-masks (s .stopped-zeros (sym (bytes-3 a) ∙ e)) c;
+      stopped-tries = λ e. bytes-6-7 a few ∙ s .stopped-tries (sym (bytes-3 a) ∙ e);
+      tries = λ k. bytes-6-7 a few ∙ s .tries (λ e. k (bytes-3 a ∙ e));
+      not-stopped = λ k. reads-first (s .not-stopped (λ e. k (bytes-3 a ∙ e)));
+      past = λ c k l. domain-back a c l (small c) ∙ past-masks c k (either (eqb (a .outcome) 3)) (opt ((searched B (domains B L)) .solution));
     }
       where
-        past-masks : (c : ℕ) → columnCount B ≤ c
-            → (firstSolution B (domains B L) ≡ none) ⊎ ((x : List ℕ) × (firstSolution B (domains B L) ≡ some x)) → getD (a .shown) c 0 ≡ 0
-        past-masks c k (inl e) =
-            ap (λ (D : List ℕ). getD D c 0) (s .zeros (none-iff B (domains B L) (domains-store B L) .0 e))
-            ∙ getD-tab-out (columnCount B) (λ c. 0) c k
-        past-masks c k (inr q) =
-            let f = found-iff B (domains B L) (domains-store B L) (q .0) .0 (q .1) in
-            ap (λ (D : List ℕ). getD D c 0) (s .first (q .0) f) ∙ map-out (λ v. 2 ^ v) (q .0) c (rw (f .solution .size) k)
-
-        no-masks : (c : ℕ) → (c < columnCount B) ⊎ (columnCount B ≤ c) → _≡_ {A = ℕ} (getD (tab (columnCount B) (λ c. 0)) c 0) 0
-        no-masks c (inl l) = getD-tab {A = ℕ} 0 (columnCount B) (λ c. 0) c l
-        no-masks c (inr l) = getD-tab-out (columnCount B) (λ c. 0) c l
+        past-masks : (c : ℕ) → columnCount B ≤ c → (eqb (a .outcome) 3 ≡ true) ⊎ (eqb (a .outcome) 3 ≡ false)
+            → ((searched B (domains B L)) .solution ≡ none) ⊎ ((x : List ℕ) × ((searched B (domains B L)) .solution ≡ some x)) → getD (a .shown) c 0 ≡ 0
+        past-masks c k (inl e) o = zero-masks (s .stopped-zeros (eqb-true _ 3 e)) c
+        past-masks c k (inr e) (inl q) = zero-masks (s .not-stopped (eqb-false _ 3 e) .zeros (claim2 B p .0 L .not-found .0 q)) c
+        past-masks c k (inr e) (inr q) =
+            let f = claim2 B p .0 L .found (q .0) .0 (q .1) in
+            ap (λ (D : List ℕ). getD D c 0) (s .not-stopped (eqb-false _ 3 e) .first (q .0) f) ∙ map-out (λ v. 2 ^ v) (q .0) c (rw (f .solution .size) k)
 
 -- the book of an accepted run is well-formed
 pub formed : (b o : List ℕ) (room : ℕ) → runRefusal b o room ≡ 0 → WellFormed (bookOf b)
@@ -207,20 +223,20 @@ module _ (b o space : List ℕ) where
     unfolding showing
     states =
         each (λ i. (IsFinish o S i → ⊥) → AnswerShowsState bk (T i) (answerAt S i))
-        (λ f. rw (no-orders, opened) (reads-state bk well [] (opening bk) (domains-store bk [] .bits) (claim2 bk well .1 .opened)))
+        (λ f. rw (no-orders, opened) (reads-state bk well [] (opening bk) (domains-store bk [] .bits) (omega arith) (claim2 bk well .1 .opened)))
         (λ i l f.
         rw (stands-more i, ordered i l)
-        (reads-state bk well (push bk (T i) (orderAt o i)) (answer bk (T i) (orderAt o i)) (shown-small bk (T i) (orderAt o i))
-        (claim2 bk well .1 .ordered (T i) (orderAt o i) (no-finish i l f))))
+        (reads-state bk well (push bk (T i) (orderAt o i)) (answer bk (T i) (orderAt o i)) (shown-small bk well (T i) (orderAt o i))
+        (tries-small bk (T i) (orderAt o i)) (claim2 bk well .1 .ordered (T i) (orderAt o i) (no-finish i l f))))
 
-    finishes : (i : ℕ) → i ≤ n → IsFinish o S i → AnswerShowsFinish bk (T i) (answerAt S i)
+    finishes : (i : ℕ) → i ≤ n → IsFinish o S i → AnswerShowsFinish bk (T i) (tryLimit (orderAt o (i - 1))) (answerAt S i)
     finishes =
-        each (λ i. IsFinish o S i → AnswerShowsFinish bk (T i) (answerAt S i)) (λ f. absurd (let z = f .ordered in omega arith))
+        each (λ i. IsFinish o S i → AnswerShowsFinish bk (T i) (tryLimit (orderAt o (i - 1))) (answerAt S i)) (λ f. absurd (let z = f .ordered in omega arith))
         (λ i l f.
         let q : i + 1 - 1 ≡ i = omega arith in
         let k : kind (orderAt o i) ≡ 4 = rw q at (f .of-kind) in
-        rw (stands-more i, push-finish bk (T i) (orderAt o i) k, ordered i l)
-        (reads-finish bk well (T i) (answer bk (T i) (orderAt o i)) (shown-small bk (T i) (orderAt o i))
+        rw (q, stands-more i, push-finish bk (T i) (orderAt o i) k, ordered i l)
+        (reads-finish bk well (T i) (answer bk (T i) (orderAt o i)) (shown-small bk well (T i) (orderAt o i)) (tries-small bk (T i) (orderAt o i))
         (claim2 bk well .1 .finished (T i) (orderAt o i) (record { of-kind = k; accepted = sym (refusals i l) ∙ f .accepted }))))
 
     accepted-run : AcceptedRun bk T o S n (runResult b o (length space))

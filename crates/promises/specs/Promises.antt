@@ -8,14 +8,14 @@ use mathlib.Core.List.{List, _++_}
 use Prim.Native.Nat.{_+_, _-_, _/_, _<_, _^_, _≤_, ℕ}
 use lib.Dec.{eqb}
 use lib.ListN.{getD, length}
-use Rattle.fields.specs.Bytes.{byteAt}
+use Rattle.fields.specs.Bytes.{byteAt, halfAt}
 use Rattle.model.specs.Answers.{answerAt, doneOf, domainIn, statusOf}
 use Rattle.model.specs.Books.{Book, Fails, Stays, columnCount}
 use Rattle.model.specs.Choices.{Lower}
 use Rattle.model.specs.Demands.{DoneExactly, SameAllowed, SameFinish}
 use Rattle.model.specs.Masks.{bit}
-use Rattle.model.specs.Orders.{Entry, allowed, depth, domains, kind, refusal, trail}
-use Rattle.model.specs.Search.{valueOf}
+use Rattle.model.specs.Orders.{Entry, allowed, depth, domains, kind, refusal, trail, tryLimit}
+use Rattle.model.specs.Search.{searched, valueOf}
 use Rattle.model.specs.Solutions.{FirstSolution, NoSolution, Solution}
 use Rattle.model.specs.Stores.{Within}
 use Rattle.model.specs.Tests.{count, tab}
@@ -42,8 +42,8 @@ pub record AnswerTells (B : Book) (L : List Entry) (a : List ℕ) : Type 0 where
   pub done : byteAt a 4 ≡ doneOf B (domains B L)
   -- request W3: "Done now holds exactly when the session isn't dead and every choice … is allowed"
   pub done-exactly : DoneExactly B (domains B L) (byteAt a 1) (byteAt a 4)
-  -- "bytes 5 to 7 zero"
-  pub zero-bytes : (j : ℕ) → 5 ≤ j → j ≤ 7 → byteAt a j ≡ 0
+  -- "bytes 5 to 7 zero", of which request W4 has taken 6 and 7
+  pub byte-5 : byteAt a 5 ≡ 0
   -- demand 2: "dead exactly when there is no sound box"
   pub failed : (byteAt a 1 ≡ 0) ↔ Fails B (allowed B L)
 
@@ -51,19 +51,31 @@ pub record AnswerTells (B : Book) (L : List Entry) (a : List ℕ) : Type 0 where
 pub record AnswerShowsState (B : Book) (L : List Entry) (a : List ℕ) : Type 0 where
   -- "byte 3 zero, or for an accepted finish 1 found, 2 none"
   pub outcome : byteAt a 3 ≡ 0
+  pub no-tries : (byteAt a 6 ≡ 0) × (byteAt a 7 ≡ 0)
   -- demand 2: "a value stays exactly when some sound box within the standing narrowings holds it"
   pub stays : (c v : ℕ) → c < 16 → (bit v (domainIn a c) ≡ true) ↔ Stays B (allowed B L) c v
 
--- that of an accepted finish
-pub record AnswerShowsFinish (B : Book) (L : List Entry) (a : List ℕ) : Type 0 where
+-- that of an accepted finish which shows what there is
+pub record AnswerShowsFirst (B : Book) (L : List Entry) (a : List ℕ) : Type 0 where
   -- demand 2: "a finish gives the first full set in the current domains, none exactly when there is none"
   pub found : (byteAt a 3 ≡ 1) ↔ ((x : List ℕ) × Solution B (domains B L) x)
   pub not-found : (byteAt a 3 ≡ 2) ↔ NoSolution B (domains B L)
   pub first : (x : List ℕ) → FirstSolution B (domains B L) x → (c : ℕ) → c < columnCount B → domainIn a c ≡ 2 ^ getD x c 0
-  -- "zero from C on"; of any other answer this follows from `stays`, since no value past the last column is allowed
-  pub past : (c : ℕ) → columnCount B ≤ c → c < 16 → domainIn a c ≡ 0
   -- "or zeros for none"
   pub zeros : NoSolution B (domains B L) → (c : ℕ) → c < 16 → domainIn a c ≡ 0
+
+-- that of an accepted finish with the limit n. Quoted is request W4
+pub record AnswerShowsFinish (B : Book) (L : List Entry) (n : ℕ) (a : List ℕ) : Type 0 where
+  -- "Byte 3 is 3, stopped, exactly when the answer needs more tries than the limit; the domains are then zero."
+  pub stopped : (byteAt a 3 ≡ 3) ↔ (n < (searched B (domains B L)) .tries)
+  pub stopped-zeros : byteAt a 3 ≡ 3 → (c : ℕ) → c < 16 → domainIn a c ≡ 0
+  -- "Answer bytes 6 and 7 carry the tries made, which when stopped are the limit."
+  pub stopped-tries : byteAt a 3 ≡ 3 → halfAt a 6 ≡ n
+  pub tries : (byteAt a 3 ≡ 3 → ⊥) → halfAt a 6 ≡ (searched B (domains B L)) .tries
+  -- "Demand 2's sentence on the finish holds for every finish that isn't stopped."
+  pub not-stopped : (byteAt a 3 ≡ 3 → ⊥) → AnswerShowsFirst B L a
+  -- "zero from C on"; of any other answer this follows from `stays`, since no value past the last column is allowed
+  pub past : (c : ℕ) → columnCount B ≤ c → c < 16 → domainIn a c ≡ 0
 
 -- ---- an accepted run; S is the answer space at its end
 -- what stands when answer i is given, by the bytes of book and list
@@ -88,7 +100,7 @@ pub record AcceptedRun (B : Book) (L : ℕ → List Entry) (o S : List ℕ) (n a
   -- every answer, by what stands when it is given
   pub tells : (i : ℕ) → i ≤ n → AnswerTells B (L i) (answerAt S i)
   pub states : (i : ℕ) → i ≤ n → (IsFinish o S i → ⊥) → AnswerShowsState B (L i) (answerAt S i)
-  pub finishes : (i : ℕ) → i ≤ n → IsFinish o S i → AnswerShowsFinish B (L i) (answerAt S i)
+  pub finishes : (i : ℕ) → i ≤ n → IsFinish o S i → AnswerShowsFinish B (L i) (tryLimit (orderAt o (i - 1))) (answerAt S i)
 
 -- ---- demand 3, of the answers: "any two whole lists", of orders of any kind, over one book
 -- what stands after the whole list
@@ -105,6 +117,17 @@ pub record EndsWith (b o a : List ℕ) : Type 0 where
 abbrev pub setIn : List ℕ → List ℕ → List ℕ
 setIn b a = tab (columnCount (bookOf b)) (λ c. valueOf (domainIn a c))
 
+-- the finish f is given after the list x: a is its answer, the last one of the list with f appended. So x has up to 255 orders
+pub record NextFinish (b x f a : List ℕ) : Type 0 where
+  pub bytes : length f ≡ 8
+  pub of-kind : kind f ≡ 4
+  pub ends : EndsWith b (x ++ f) a
+
+-- and it is accepted
+pub record AcceptedNext (b x f a : List ℕ) : Type 0 where
+  pub next : NextFinish b x f a
+  pub accepted : byteAt a 0 ≡ 0
+
 -- x and y are the lists, a and d answers
 module _ (b x y : List ℕ) where
   -- "Lists that end with the same allowed values in every column"
@@ -115,26 +138,26 @@ module _ (b x y : List ℕ) where
   abbrev pub NarrowerEnd : Type 0
   NarrowerEnd = Within (allowed (bookOf b) (standingAfter b x)) (allowed (bookOf b) (standingAfter b y))
 
-  -- the finish f "is then given to both": a and d are its answers, the last ones of the lists with f appended. So each has up to 255 orders before it
-  pub record NextFinish (f a d : List ℕ) : Type 0 where
-    pub bytes : length f ≡ 8
-    pub of-kind : kind f ≡ 4
-    pub left : EndsWith b (x ++ f) a
-    pub right : EndsWith b (y ++ f) d
-
   pub record ComparedRuns : Type 0 where
     -- "Lists that end with the same allowed values in every column agree in bytes 1 and 4 of their last answers (answer 0 for an empty list)"
     pub same-status : EqualEnds → (a d : List ℕ) → EndsWith b x a → EndsWith b y d → byteAt a 1 ≡ byteAt d 1
     pub same-done : EqualEnds → (a d : List ℕ) → EndsWith b x a → EndsWith b y d → byteAt a 4 ≡ byteAt d 4
     -- a finish that is then given to both is accepted in both or in none
-    pub same-refusal : (f a d : List ℕ) → NextFinish f a d → byteAt a 0 ≡ byteAt d 0
-    -- "If one accepted finish with the same bytes is then given to both, they agree in bytes 1, 3, 4 and 8 to 71 of its answer."
-    pub same-finish : EqualEnds → (f a d : List ℕ) → NextFinish f a d → byteAt a 0 ≡ 0 → SameFinish a d
-    -- "If there is a full set in the narrower's current domains, there is one in the wider's,
-    pub wider-found : NarrowerEnd → (f a d : List ℕ) → NextFinish f a d → byteAt a 0 ≡ 0 → byteAt a 3 ≡ 1 → byteAt d 3 ≡ 1
-    -- and the wider's first is the same as the narrower's or has the lower value in the lowest column where they differ."
-    pub wider-first : NarrowerEnd → (f a d : List ℕ) → NextFinish f a d → byteAt a 0 ≡ 0 → byteAt a 3 ≡ 1
-        → (setIn b d ≡ setIn b a) ⊎ Lower (setIn b d) (setIn b a)
+    pub same-refusal : (f a d : List ℕ) → NextFinish b x f a → NextFinish b y f d → byteAt a 0 ≡ byteAt d 0
+    -- "If one accepted finish with the same bytes is then given to both, they agree in bytes 1, 3, 4 and 8 to 71 of its answer." Request W4: "two lists
+    -- with equal allowed values give equal tries and outcome at equal limits, stopped for both included"
+    pub same-finish : EqualEnds → (f g a d : List ℕ) → AcceptedNext b x f a → AcceptedNext b y g d → tryLimit f ≡ tryLimit g → SameFinish a d
+    -- "A larger limit never changes found or none, nor the set", nor the tries
+    pub larger-limit : EqualEnds → (f g a d : List ℕ) → AcceptedNext b x f a → AcceptedNext b y g d → tryLimit f ≤ tryLimit g
+        → (byteAt a 3 ≡ 3 → ⊥) → SameFinish a d
+    -- "If there is a full set in the narrower's current domains, there is one in the wider's, and the wider's first is the same as the narrower's or
+    -- has the lower value in the lowest column where they differ": "compared by the first full sets of document 01, without a limit"
+    pub wider-first : NarrowerEnd → (v : List ℕ) → Solution (bookOf b) (domains (bookOf b) (standingAfter b x)) v
+        → (w : List ℕ) × (z : List ℕ) × FirstSolution (bookOf b) (domains (bookOf b) (standingAfter b x)) w
+        × FirstSolution (bookOf b) (domains (bookOf b) (standingAfter b y)) z × ((z ≡ w) ⊎ Lower z w)
+    -- and so by what two finishes show, "since the wider one may stop first" where it isn't stopped
+    pub wider-found : NarrowerEnd → (f g a d : List ℕ) → AcceptedNext b x f a → AcceptedNext b y g d → byteAt a 3 ≡ 1 → (byteAt d 3 ≡ 3 → ⊥)
+        → (byteAt d 3 ≡ 1) × ((setIn b d ≡ setIn b a) ⊎ Lower (setIn b d) (setIn b a))
 
 -- ---- the claims, of every book, list and space
 abbrev pub AnyRuns : Type 0

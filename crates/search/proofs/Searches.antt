@@ -1,30 +1,31 @@
 -- Laws of the search: states that are not failed, the branches at a column, and a whole finish. Assumes nothing.
-use mathlib.Core.Path.{_∙_, _≡_, ap, subst, subst⁻¹, sym}
-use mathlib.Core.Bool.{Bool, false, false≢true, true, true≢false}
+use mathlib.Core.Path.{_∙_, _≡_, ap, refl, subst, subst⁻¹, sym}
+use mathlib.Core.Bool.{_&&_, Bool, false, false≢true, not, true}
 use mathlib.Core.Logic.{_⊎_, inl, inr}
-use mathlib.Core.Option.{none, Option, some}
+use mathlib.Core.Option.{none, some}
 use mathlib.Core.List.{List, [], _++_, _∷_, map}
-use Prim.Native.Nat.{_%_, _*_, _<_, _^_, _≤_, ℕ}
+use Prim.Native.Nat.{_%_, _*_, _+_, _<_, _^_, _≤_, ℕ}
 use native.Mathlib.Nat.{lt-of-le-of-lt}
 use native.Mathlib.Omega.{arith}
+use borrow.Author.Tests.{eq-eqb, ne-eqb}
 use lib.Bits.{and-le-l, bitAnd}
 use lib.Dec.{eqb, ltb}
-use lib.ListN.{List·getD-eq-default, getD, set, length-replicate, replicate}
+use lib.ListN.{List·getD-eq-default, getD, set, replicate}
 use lib.Pow.{pow-lt, pow-pos}
 use lib.Count.{trailingZeros}
-use lib.Seq.{ext-getD}
+use Rattle.model.specs.Answers.{Outcome, found, limited, outcomeNumber, outcomeTries}
 use Rattle.model.specs.Books.{ConsistentStore, WellFormed, closure, columnCount}
 use Rattle.model.specs.Masks.{bit, size, Cleared}
 use Rattle.model.specs.Orders.{domains, narrowed, allowed}
-use Rattle.model.specs.Search.{after, searched, Searched, valueOf}
-use Rattle.model.specs.Stores.{IsStore, assign, has, meet, values, emptyStore}
+use Rattle.model.specs.Search.{Searched, after, following, openColumn, orElse, searched, tryEach, atOnce, valueOf}
+use Rattle.model.specs.Stores.{IsStore, allFilled, assign, emptyStore, has, meet, values}
 use Rattle.model.specs.Tests.{FirstIn, tab}
 use Rattle.model.proofs.Masks.{bit-and, bit-pow, bit-pow-only, mask-ext, size-zero, bit-of-zero, lowest-under}
-use Rattle.model.proofs.Search.{after-closed, after-fewer, after-store, closed-consistent, many-column, searched-empty, single-column, assigned-masks, searched-found, searched-none, searched-single}
-use Rattle.model.proofs.Stores.{empty-has, filled-i, in-store}
-use Rattle.model.proofs.Tests.{and-i, and-r, below, same-test, either, getD-tab, getD-tab-out, length-tab, zeros-at}
-use Rattle.model.proofs.Trails.{domains-closed, domains-store, allowed-store}
-use Rattle.model.proofs.Choices.{opt}
+use Rattle.model.proofs.Outcomes.{LimitedTo, is-found, is-none, is-stopped, limited-enough, limited-or, limited-stopped, unlimited-none}
+use Rattle.model.proofs.Search.{after-fewer, after-store, assigned-masks, else-found, else-more, else-none, following-0, many-column, open-at, open-none, searched-empty, searched-open, searched-single, single-column, tryEach-lowest, tryEach-none, tryEach-same}
+use Rattle.model.proofs.Stores.{empty-unfilled, filled-e, filled-i, in-store}
+use Rattle.model.proofs.Tests.{and-false, and-i, and-r, and-true, below, either, getD-tab, getD-tab-out, same-test, zeros-at}
+use Rattle.model.proofs.Trails.{domains-store, allowed-store}
 use Rattle.model.proofs.Books.{closed-or-empty}
 use Rattle.book.specs.Decoding.{bookOf}
 use Rattle.heads.specs.Heads.{columnsOf}
@@ -39,8 +40,8 @@ use Rattle.engine.specs.States.{SomeState}
 use Rattle.engine.specs.declared.state.State.{State}
 use Rattle.engine.proofs.States.{met-closure, met-store, narrow-ready}
 use Rattle.engine.proofs.Propagation.{columns-count, store-in, store-is, no-value}
-use Rattle.search.specs.Searches.{FilledState, FoundIs, OpenValue, searchAfter, searchIn, isFound, solutionMasks, Finishes}
-use Rattle.search.specs.declared.Found.{Found}
+use Rattle.search.specs.Searches.{FilledState, Finishes, OpenValue, OutcomeIs, Reaches, searchAfter, searchIn}
+use Rattle.search.specs.declared.Outcome.{Outcome as Held}
 
 -- how many values are left: what falls as the search goes deeper
 abbrev pub valuesLeft : List ℕ → List ℕ → ℕ
@@ -85,14 +86,6 @@ module _ (b : List ℕ) (acc : Accepted b) where
 
     pub some-value : (c : ℕ) → c < columnCount (bookOf b) → (v : ℕ) × (has (storeIn b D) c v ≡ true)
     some-value c l = let p = h .filled c (omega (arith, columns-count b)) in (p .0, sym (same-has c (p .0)) ∙ p .1)
-
-    pub filled-closed : closure (bookOf b) (storeIn b D) ≡ storeIn b D
-    filled-closed = ap (closure (bookOf b)) filled-domains ∙ domains-closed (bookOf b) (h .trail) ∙ sym filled-domains
-
-    pub filled-consistent : ConsistentStore (bookOf b) (storeIn b D)
-    filled-consistent =
-        closed-consistent (bookOf b) book-formed E filled-store filled-closed
-        (filled-i (columnCount (bookOf b)) E filled-store some-value)
 
     -- ---- the lowest open column
     -- the columns below it are single
@@ -151,14 +144,12 @@ module _ (b : List ℕ) (acc : Accepted b) where
       value-trail =
           ap (closureIn b) (sym set-meet) ∙ met-closure b acc (h .trail) (h .is .holds) (h .is .store) (h .is .sized) c (2 ^ v) (o .column)
 
-      -- no store is left: no solution
-      pub value-none : {D′ W′ X′ N′ : List ℕ} {r : Bool} → Fixpoint b (set D c m) D′ W′ X′ N′ r → r ≡ false → (searchAfter b D c v) .solution ≡ none
+      -- no store is left: nothing more is tried
+      pub value-none : {D′ W′ X′ N′ : List ℕ} {r : Bool} → Fixpoint b (set D c m) D′ W′ X′ N′ r → r ≡ false → searchAfter b D c v ≡ atOnce none
       value-none p n =
           searched-empty (bookOf b) book-formed (after (bookOf b) E c v) (after-store (bookOf b) book-formed E filled-store c inside v value)
-          (after-closed (bookOf b) book-formed E filled-store c inside v value)
-          (λ x s.
-          empty-has (columnCount (bookOf b)) 0 (getD x 0 0)
-          (subst (λ (S : List ℕ). has S 0 (getD x 0 0) ≡ true) (sym after-is ∙ p .failed n) (s .takes 0 (book-formed .some-column))))
+          (subst (λ (S : List ℕ). allFilled (columnCount (bookOf b)) S ≡ false) (sym (p .failed n) ∙ after-is)
+          (empty-unfilled (columnCount (bookOf b)) (book-formed .some-column)))
 
       -- a store is left: the state of the trail with the narrow
       module _ {D′ W′ X′ N′ : List ℕ} {r : Bool} (p : Fixpoint b (set D c m) D′ W′ X′ N′ r) (t : r ≡ true) where
@@ -174,8 +165,8 @@ module _ (b : List ℕ) (acc : Accepted b) where
             store-is b D′ (after (bookOf b) E c v) (after-store (bookOf b) book-formed E filled-store c inside v value)
             (λ k. p .state t .domain k ∙ ap (λ (S : List ℕ). getD S k 0) after-is)
 
-        pub value-found : {f : Found} → FoundIs b (searchIn b D′) f → FoundIs b (searchAfter b D c v) f
-        value-found {f} s = subst (λ (S : List ℕ). FoundIs b (searched (bookOf b) S) f) value-store s
+        pub value-found : {n m : ℕ} {f : Held} → Reaches b n m (searchIn b D′) f → Reaches b n m (searchAfter b D c v) f
+        value-found {n} {m} {f} s = subst (λ (S : List ℕ). Reaches b n m (searched (bookOf b) S) f) value-store s
 
         pub value-fewer : valuesLeft b D′ < valuesLeft b D
         unfolding isOpen
@@ -185,93 +176,85 @@ module _ (b : List ℕ) (acc : Accepted b) where
             (many-column (getD E c 0) (ap (λ (m : ℕ). ltb 1 (size m)) (sym (filled-same c)) ∙ o .more)))
 
 -- ---- what is given
--- two searches that find the same
-searched-as : {b : List ℕ} {g h : Searched} {f : Found} → g .solution ≡ h .solution → FoundIs b g f → FoundIs b h f
-searched-as {b} e s =
-    record {
-      ok = s .ok ∙ ap isFound e;
-      shown = s .shown ∙ ap (λ (o : Option (List ℕ)). tab 16 (λ c. getD (solutionMasks (columnsOf b) o) c 0)) e;
-    }
+-- searches that come to the same
+reaches-as : {b : List ℕ} {n m k : ℕ} {g h : Searched} {f : Held} → following m g ≡ following k h → Reaches b n m g f → Reaches b n k h f
+reaches-as {b} {n} {f = f} e s = record { shows = λ D. subst (λ (i : Searched). OutcomeIs b D (limited n i) f) e (s .shows D) }
 
--- no solution
-pub found-none : (b : List ℕ) {g : Searched} (f : Found) → (f .ok ≡ false) × (f .dom ≡ replicate 16 0) → g .solution ≡ none → FoundIs b g f
-found-none b {g} f (k, e) n = searched-as (sym n) (record { ok = k; shown = e ∙ zeros })
+-- no solution is shown: none, or stopped
+module _ (b : List ℕ) {k t : ℕ} {f : Held} (s : (f .number ≡ k) × (f .tries ≡ t) × (f .masks ≡ replicate 16 0)) where
+  no-masks : (c : ℕ) → c < 16 → getD (f .masks) c 0 ≡ getD (tab (columnCount (bookOf b)) (λ c. 0)) c 0
+  no-masks c l = ap (λ (M : List ℕ). getD M c 0) (s .2) ∙ zeros-at 16 c ∙ go (below c (columnCount (bookOf b)))
+    where
+      go : (c < columnCount (bookOf b)) ⊎ (columnCount (bookOf b) ≤ c) → _≡_ {A = ℕ} 0 (getD (tab (columnCount (bookOf b)) (λ c. 0)) c 0)
+      go (inl q) = sym (getD-tab 0 (columnCount (bookOf b)) (λ c. 0) c q)
+      go (inr q) = sym (getD-tab-out (columnCount (bookOf b)) (λ c. 0) c q)
+
+  pub none-reached : {n m : ℕ} {g : Searched} → k ≡ 2 → g .solution ≡ none → t ≡ m + g .tries → t ≤ n → Reaches b n m g f
+  none-reached {n} {m} {g} z e q l =
+      record {
+        shows = λ D.
+            subst⁻¹ (λ (x : Outcome). OutcomeIs b D x f)
+            (limited-enough n (following m g) (rw q at l) ∙ unlimited-none (following m g) e)
+            (record { number = s .0 ∙ z; tries = s .1 ∙ q; masks = no-masks });
+      }
+
+  pub stopped-reached : {n m : ℕ} {g : Searched} → k ≡ 3 → t ≡ n → n < m + g .tries → Reaches b n m g f
+  stopped-reached {n} {m} {g} z q l =
+      record {
+        shows = λ D.
+            subst⁻¹ (λ (x : Outcome). OutcomeIs b D x f) (limited-stopped n (following m g) l)
+            (record { number = s .0 ∙ z; tries = s .1 ∙ q; masks = no-masks });
+      }
+
+-- found, none or stopped, by the number
+given-none : {b : List ℕ} {n m : ℕ} {g : Searched} {f : Held} → Reaches b n m g f → f .number ≡ 2
+    → (g .solution ≡ none) × (f .tries ≡ m + g .tries) × (f .tries ≤ n)
+given-none {b} {n} {m} {g} {f} h e = go (limited-or n (following m g)) (h .shows [])
   where
-    entry : (c : ℕ) → (c < columnsOf b) ⊎ (columnsOf b ≤ c) → _≡_ {A = ℕ} 0 (getD (tab (columnsOf b) (λ c. 0)) c 0)
-    entry c (inl l) = sym (getD-tab 0 (columnsOf b) (λ c. 0) c l)
-    entry c (inr l) = sym (getD-tab-out (columnsOf b) (λ c. 0) c l)
+    go : LimitedTo n (following m g) → OutcomeIs b [] (limited n (following m g)) f → (g .solution ≡ none) × (f .tries ≡ m + g .tries) × (f .tries ≤ n)
+    go (is-found x t q s l) o = let z : _≡_ {A = ℕ} 2 1 = sym e ∙ o .number ∙ ap outcomeNumber q in absurd (omega arith)
+    go (is-none t q s l) o = let z : f .tries ≡ t = o .tries ∙ ap outcomeTries q in (s, z ∙ l .0, rw z (l .1))
+    go (is-stopped q l) o = let z : _≡_ {A = ℕ} 2 3 = sym e ∙ o .number ∙ ap outcomeNumber q in absurd (omega arith)
 
-    zeros : replicate {A = ℕ} 16 0 ≡ tab 16 (λ c. getD (tab (columnsOf b) (λ c. 0)) c 0)
-    zeros =
-        ext-getD 0 (replicate {A = ℕ} 16 0) (tab 16 (λ c. getD (tab (columnsOf b) (λ c. 0)) c 0))
-        (length-replicate {A = ℕ} 16 0 ∙ sym (length-tab 16 _))
-        (λ c l.
-        zeros-at 16 c
-        ∙ entry c (below c (columnsOf b))
-        ∙ sym (getD-tab 0 16 (λ c. getD (tab (columnsOf b) (λ c. 0)) c 0) c (omega (arith, length-replicate {A = ℕ} 16 0))))
-
--- found, or not
-given-none : {b : List ℕ} {g : Searched} {f : Found} → FoundIs b g f → f .ok ≡ false → g .solution ≡ none
-given-none {b} {g} {f} h e = go (opt (g .solution))
-  where
-    go : (g .solution ≡ none) ⊎ ((x : List ℕ) × (g .solution ≡ some x)) → g .solution ≡ none
-    go (inl q) = q
-    go (inr q) = absurd (true≢false (sym (h .ok ∙ ap isFound (q .1)) ∙ e))
-
-given-some : {b : List ℕ} {g : Searched} {f : Found} → FoundIs b g f → f .ok ≡ true → (x : List ℕ) × (g .solution ≡ some x)
-given-some {b} {g} {f} h e = go (opt (g .solution))
-  where
-    go : (g .solution ≡ none) ⊎ ((x : List ℕ) × (g .solution ≡ some x)) → (x : List ℕ) × (g .solution ≡ some x)
-    go (inl q) = absurd (false≢true (sym (h .ok ∙ ap isFound q) ∙ e))
-    go (inr q) = q
-
--- ---- the values of column c that are still to be tried: those in `rest`
-pub record Untried (b D : List ℕ) (c rest : ℕ) : Type 0 where
+-- ---- the values of column c that are still to be tried: those in `rest`, after `count` tries
+pub record Untried (b D : List ℕ) (c made rest count : ℕ) : Type 0 where
   pub own : (v : ℕ) → bit v rest ≡ true → has D c v ≡ true
-  pub tried : (v : ℕ) → has D c v ≡ true → bit v rest ≡ false → (searchAfter b D c v) .solution ≡ none
-
-pub untried-all : (b D : List ℕ) (c : ℕ) → Untried b D c (getD D c 0)
-unfolding has
-untried-all b D c = record { own = λ v e. e; tried = λ v e n. absurd (true≢false (sym e ∙ n)) }
-
--- the lowest has been tried, and has no solution
-pub untried-less : {b D : List ℕ} {c v rest less : ℕ} {f : Found} → Untried b D c rest → v ≡ trailingZeros 32 rest → Cleared rest less (trailingZeros 32 rest)
-    → FoundIs b (searchAfter b D c v) f → f .ok ≡ false → Untried b D c less
-untried-less {b} {D} {c} {v} {rest} {less} {f} u q k g e =
-    record { own = λ w i. own w i (either (bit w rest)); tried = λ w i n. split w v (λ s. rw s (given-none g e)) (λ s. u .tried w i (sym (k .rest w (λ t. s (t ∙ sym q))) ∙ n)) }
-  where
-    own : (w : ℕ) → bit w less ≡ true → (bit w rest ≡ true) ⊎ (bit w rest ≡ false) → has D c w ≡ true
-    own w i (inl r) = u .own w r
-    own w i (inr r) =
-        split w (trailingZeros 32 rest) (λ s. absurd (false≢true (sym (k .gone) ∙ ap (λ (t : ℕ). bit t less) (sym s) ∙ i)))
-        (λ s. absurd (false≢true (sym r ∙ sym (k .rest w s) ∙ i)))
+  -- their search, after so many tries, comes to what the whole search comes to
+  pub left : following made (searchIn b D) ≡ following count (tryEach 32 (λ v. bit v rest) (λ v. searchAfter b D c v))
 
 module _ (b : List ℕ) (acc : Accepted b) {D W X N : List ℕ} (h : FilledState b D W X N) where
-  -- ---- every column is single: the domains are the solution
-  pub found-assigned : {r : ℕ} (f : Found) → FirstIn (isOpen D) 0 16 r → r ≡ 16 → f .ok ≡ true → f .dom ≡ D → FoundIs b (searchIn b D) f
-  found-assigned {r} f g q k e =
-      searched-as (sym solution) (record { ok = k; shown = e ∙ shown })
-    where
-      E : List ℕ
-      E = storeIn b D
+  abbrev S : List ℕ
+  S = storeIn b D
 
+  filled : allFilled (columnCount (bookOf b)) (storeIn b D) ≡ true
+  filled = filled-i (columnCount (bookOf b)) S (filled-store b acc h) (some-value b acc h)
+
+  -- ---- every column is single: the domains are the solution
+  pub found-assigned : {r n m : ℕ} (f : Held) → FirstIn (isOpen D) 0 16 r → r ≡ 16 → m ≤ n → f .number ≡ 1 → f .tries ≡ m → f .masks ≡ D
+      → Reaches b n m (searchIn b D) f
+  found-assigned {r} {n} {m} f g q l k t e =
+      record {
+        shows = λ A.
+            subst⁻¹ (λ (x : Outcome). OutcomeIs b A x f) shows
+            (record {
+              number = k;
+              tries = t ∙ omega arith;
+              masks = λ c i.
+                  ap (λ (M : List ℕ). getD M c 0) e
+                  ∙ filled-same b acc h c
+                  ∙ ap (λ (M : List ℕ). getD M c 0)
+                  (sym (assigned-masks (columnCount (bookOf b)) S (filled-store b acc h) (some-value b acc h) one));
+            });
+      }
+    where
       one : (c : ℕ) → c < columnCount (bookOf b) → eqb (size (getD (storeIn b D) c 0)) 1 ≡ true
       one c l =
           single-below b acc h g c l (omega (arith, columns-count b, columns-range b (accepted-right b acc .head) .1))
 
-      solution : (searchIn b D) .solution ≡ some (map valueOf (storeIn b D))
-      solution = searched-single (bookOf b) (book-formed b acc) E (filled-store b acc h) (filled-closed b acc h) (filled-consistent b acc h) one
-
-      masks : solutionMasks (columnsOf b) (some (map valueOf (storeIn b D))) ≡ storeIn b D
-      masks = assigned-masks (columnCount (bookOf b)) E (filled-store b acc h) (some-value b acc h) one
-
-      shown : D ≡ tab 16 (λ c. getD (solutionMasks (columnsOf b) (some (map valueOf (storeIn b D)))) c 0)
-      shown =
-          ext-getD 0 D (tab 16 (λ c. getD (solutionMasks (columnsOf b) (some (map valueOf E))) c 0)) (h .is .store .columns ∙ sym (length-tab 16 _))
-          (λ c l.
-          filled-same b acc h c
-          ∙ ap (λ (S : List ℕ). getD S c 0) (sym masks)
-          ∙ sym (getD-tab 0 16 (λ c. getD (solutionMasks (columnsOf b) (some (map valueOf E))) c 0) c (omega (arith, h .is .store .columns))))
+      shows : limited n (following m (searchIn b D)) ≡ found (map valueOf (storeIn b D)) (m + 0)
+      shows =
+          ap (λ (i : Searched). limited n (following m i)) (searched-single (bookOf b) (book-formed b acc) S (filled-store b acc h) filled (open-none (columnCount (bookOf b)) S one))
+          ∙ limited-enough n (following m (atOnce (some (map valueOf S)))) (omega arith)
 
   -- ---- the lowest open column
   module _ {c : ℕ} (g : FirstIn (isOpen D) 0 16 c) (l : c < 16) where
@@ -284,39 +267,132 @@ module _ (b : List ℕ) (acc : Accepted b) {D W X N : List ℕ} (h : FilledState
     single : (k : ℕ) → k < c → eqb (size (getD (storeIn b D) k 0)) 1 ≡ true
     single k q = single-below b acc h g k (omega (arith, below-last)) q
 
-    pub picked-value : {v rest : ℕ} → Untried b D c rest → bit v rest ≡ true → OpenValue b D c v
+    many : eqb (size (getD (storeIn b D) c 0)) 1 ≡ false
+    unfolding isOpen
+    many = many-column (getD S c 0) (ap (λ (m : ℕ). ltb 1 (size m)) (sym (filled-same b acc h c)) ∙ g .passes l)
+
+    lowest : openColumn (columnCount (bookOf b)) (storeIn b D) ≡ c
+    lowest = open-at (columnCount (bookOf b)) S c below-last many single
+
+    -- none is tried yet
+    pub untried-all : (made : ℕ) → Untried b D c made (getD D c 0) made
+    unfolding has
+    untried-all made = record {
+      own = λ v e. e;
+      left =
+          ap (following made)
+          (subst (λ (k : ℕ). searchIn b D ≡ tryEach 32 (has S k) (λ v. searchAfter b D k v)) lowest
+          (searched-open (bookOf b) (book-formed b acc) S (filled-store b acc h) filled (rw lowest below-last))
+          ∙ tryEach-same 32 (has S c) (λ v. bit v (getD D c 0)) (λ v. searchAfter b D c v) (λ v. searchAfter b D c v) (λ v i. sym (same-has b acc h c v))
+          (λ v i e. refl));
+    }
+
+    pub picked-value : {made v rest count : ℕ} → Untried b D c made rest count → bit v rest ≡ true → OpenValue b D c v
     picked-value u e = record { column = picked-inside; value = u .own _ e; more = g .passes l }
 
-    -- a value has a solution, and no lower one has
-    pub picked-found : {v rest : ℕ} {f : Found} → Untried b D c rest → v ≡ trailingZeros 32 rest → bit v rest ≡ true
-        → FoundIs b (searchAfter b D c v) f → f .ok ≡ true → FoundIs b (searchIn b D) f
-    picked-found {v} {rest} {f} u q e s k =
-        let x = given-some s k in
-        let same : (searchIn b D) .solution ≡ some (x .0) =
-        searched-found (bookOf b) (book-formed b acc) (storeIn b D) (filled-store b acc h) (filled-closed b acc h) c below-last single v (x .0)
-        (sym (same-has b acc h c v) ∙ u .own v e) (x .1)
-        (λ w m i. u .tried w (same-has b acc h c w ∙ i) (lowest-under 32 rest w (rw q at m)))
-        in
-        searched-as (x .1 ∙ sym same) s
+    -- the lowest value v of those, and the rest of them
+    module _ {made v rest count : ℕ} (u : Untried b D c made rest count) (q : v ≡ trailingZeros 32 rest) (e : bit v rest ≡ true) where
+      abbrev next : Searched
+      next = searchAfter b D c v
 
-    -- no value has one
-    pub picked-none : {rest : ℕ} → Untried b D c rest → rest ≡ 0 → (searchIn b D) .solution ≡ none
-    picked-none {rest} u z =
-        searched-none (bookOf b) (book-formed b acc) (storeIn b D) (filled-store b acc h) (filled-closed b acc h) c below-last single
-        (λ w i. u .tried w (same-has b acc h c w ∙ i) (rw z (bit-of-zero w)))
+      abbrev others : (ℕ → Bool) → Searched
+      others p = tryEach 32 p (λ w. searchAfter b D c w)
+
+      v-first : (p : ℕ → Bool) → p v ≡ false → ((w : ℕ) → (w ≡ v → ⊥) → p w ≡ bit w rest)
+          → following made (searchIn b D) ≡ following count (orElse (following 1 (searchAfter b D c v)) (others p))
+      v-first p gone kept =
+          u .left
+          ∙ ap (following count)
+          (tryEach-lowest 32 (λ w. bit w rest) p (λ w. searchAfter b D c w) v
+          (in-store (columnCount (bookOf b)) S (filled-store b acc h) c v (sym (same-has b acc h c v) ∙ u .own v e) .1) e
+          (λ w m. lowest-under 32 rest w (rw q at m)) gone kept)
+
+      abbrev but-v : ℕ → Bool
+      but-v w = bit w rest && not (eqb w v)
+
+      v-then : following made (searchIn b D) ≡ following count (orElse (following 1 (searchAfter b D c v)) (others but-v))
+      v-then =
+          v-first but-v (ap (λ (t : Bool). bit v rest && not t) (eq-eqb v v refl) ∙ and-false (bit v rest))
+          (λ w z. ap (λ (t : Bool). bit w rest && not t) (ne-eqb w v z) ∙ and-true (bit w rest))
+
+      -- at least one try more is needed, and those that come after it
+      needed : (t : ℕ) → t ≤ (searchAfter b D c v) .tries → count + (1 + t) ≤ made + (searchIn b D) .tries
+      needed t m =
+          let f = ap (λ (i : Searched). i .tries) v-then in
+          omega (arith, f, else-more (following 1 next) (others but-v))
+
+      -- there is no try left
+      pub picked-stopped : {n : ℕ} {f : Held} → (f .number ≡ 3) × (f .tries ≡ n) × (f .masks ≡ replicate 16 0) → count ≡ n → Reaches b n made (searchIn b D) f
+      picked-stopped s z = stopped-reached b s refl refl (omega (arith, needed 0 (omega arith)))
+
+      -- the value ends the search: it is found, or the tries are at their end
+      pub picked-found : {n : ℕ} {f : Held} → Reaches b n (count + 1) (searchAfter b D c v) f → (f .number ≡ 2 → ⊥) → Reaches b n made (searchIn b D) f
+      picked-found {n} {f} s k = go (limited-or n (following (count + 1) next))
+        where
+          go : LimitedTo n (following (count + 1) (searchAfter b D c v)) → Reaches b n made (searchIn b D) f
+          go (is-found x t a i m) =
+              reaches-as
+              (ap (λ (j : ℕ). record { solution = next .solution; tries = j }) (omega arith)
+              ∙ ap (following count) (sym (else-found (following 1 next) (others but-v) i))
+              ∙ sym v-then)
+              s
+          go (is-none t a i m) = absurd (k (s .shows [] .number ∙ ap outcomeNumber a))
+          go (is-stopped a m) =
+              record {
+                shows = λ A.
+                    subst (λ (x : Outcome). OutcomeIs b A x f)
+                    (a ∙ sym (limited-stopped n (following made (searchIn b D)) (omega (arith, needed (next .tries) (omega arith))))) (s .shows A);
+              }
+
+      -- it has no solution: the others are left
+      pub untried-less : {n less : ℕ} {f : Held} → Cleared rest less (trailingZeros 32 rest) → Reaches b n (count + 1) (searchAfter b D c v) f
+          → f .number ≡ 2 → Untried b D c made less (f .tries) × (f .tries ≤ n)
+      untried-less {n} {less} {f} k s z = (record { own = λ w i. own w i (either (bit w rest)); left = left′ }, given .2)
+        where
+          given : (next .solution ≡ none) × (f .tries ≡ count + 1 + next .tries) × (f .tries ≤ n)
+          given = given-none s z
+
+          own : (w : ℕ) → bit w less ≡ true → (bit w rest ≡ true) ⊎ (bit w rest ≡ false) → has D c w ≡ true
+          own w i (inl r) = u .own w r
+          own w i (inr r) =
+              split w (trailingZeros 32 rest) (λ t. absurd (false≢true (sym (k .gone) ∙ ap (λ (j : ℕ). bit j less) (sym t) ∙ i)))
+              (λ t. absurd (false≢true (sym r ∙ sym (k .rest w t) ∙ i)))
+
+          left′ : following made (searchIn b D) ≡ following (f .tries) (others (λ w. bit w less))
+          left′ =
+              v-first (λ w. bit w less) (rw q (k .gone)) (λ w t. k .rest w (λ j. t (j ∙ sym q)))
+              ∙ ap (following count) (else-none (following 1 next) (others (λ w. bit w less)) (given .0))
+              ∙ ap (λ (j : ℕ). record { solution = (others (λ w. bit w less)) .solution; tries = j }) (omega (arith, given .1))
+
+    -- no value is left
+    pub picked-none : {made rest count n : ℕ} {f : Held} → Untried b D c made rest count → rest ≡ 0 → count ≤ n
+        → (f .number ≡ 2) × (f .tries ≡ count) × (f .masks ≡ replicate 16 0) → Reaches b n made (searchIn b D) f
+    picked-none {made} {rest} {count} {n} u z m s =
+        reaches-as (sym (u .left ∙ ap (following count) (tryEach-none 32 (λ w. bit w rest) (λ w. searchAfter b D c w) (λ w i. rw z (bit-of-zero w)))))
+        (none-reached b s refl refl (omega arith) m)
 
 module _ (b : List ℕ) (acc : Accepted b) (st : State) where
-  -- column 0 is empty: there is no solution
-  pub finish-failed : (f : Found) → (f .ok ≡ false) × (f .dom ≡ replicate 16 0) → getD (st .dom) 0 0 ≡ 0 → Finishes b st f
+  -- column 0 is empty: there is nothing to try
+  pub finish-failed : (n : ℕ) (f : Held) → (f .number ≡ 2) × (f .tries ≡ 0) × (f .masks ≡ replicate 16 0) → getD (st .dom) 0 0 ≡ 0 → Finishes b st n f
   unfolding has
-  finish-failed f n z L h =
-      found-none b f n
-      (searched-empty (bookOf b) (book-formed b acc) (domains (bookOf b) L) (domains-store (bookOf b) L) (domains-closed (bookOf b) L)
-      (λ x s.
-      false≢true
-      (sym (bit-of-zero (getD x 0 0))
-      ∙ ap (bit (getD x 0 0)) (sym z ∙ h .holds .domain 0)
-      ∙ s .takes 0 (book-formed b acc .some-column))))
+  finish-failed n f s z L h A = rw at-0 (reached .shows A)
+    where
+      D : List ℕ
+      D = domains (bookOf b) L
+
+      reached : Reaches b n 0 (atOnce none) f
+      reached = none-reached b s refl refl (omega arith) (omega arith)
+
+      go : (allFilled (columnCount (bookOf b)) D ≡ true) ⊎ (allFilled (columnCount (bookOf b)) D ≡ false) → allFilled (columnCount (bookOf b)) D ≡ false
+      go (inr e) = e
+      go (inl e) =
+          let v = filled-e (columnCount (bookOf b)) D e 0 (book-formed b acc .some-column) in
+          absurd (false≢true (sym (bit-of-zero (v .0)) ∙ ap (bit (v .0)) (sym z ∙ h .holds .domain 0) ∙ v .1))
+
+      at-0 : searched (bookOf b) (domains (bookOf b) L) ≡ following 0 (atOnce none)
+      at-0 =
+          searched-empty (bookOf b) (book-formed b acc) D (domains-store (bookOf b) L) (go (either (allFilled (columnCount (bookOf b)) D)))
+          ∙ sym (following-0 (atOnce none))
 
   -- it is not: no column is
   pub finish-filled : SomeState b st → (getD (st .dom) 0 0 ≡ 0 → ⊥) → FilledState b (st .dom) (st .valid) (st .index) (st .nonzero)
@@ -331,7 +407,9 @@ module _ (b : List ℕ) (acc : Accepted b) (st : State) where
           (p .0, ap (bit (p .0)) (s .is .holds .domain c) ∙ p .1)
       go (inr e) c l = absurd (n (s .is .holds .domain 0 ∙ ap (λ (S : List ℕ). getD S 0 0) e ∙ no-value b acc 0))
 
-  pub finish-found : (f : Found) → FoundIs b (searchIn b (st .dom)) f → Finishes b st f
-  finish-found f s L h =
-      subst (λ (D : List ℕ). FoundIs b (searched (bookOf b) D) f)
-      (store-is b (st .dom) (domains (bookOf b) L) (domains-store (bookOf b) L) (h .holds .domain)) s
+  pub finish-found : {n : ℕ} (f : Held) → Reaches b n 0 (searchIn b (st .dom)) f → Finishes b st n f
+  finish-found {n} f s L h A =
+      subst (λ (g : Searched). OutcomeIs b A (limited n g) f)
+      (following-0 (searchIn b (st .dom))
+      ∙ ap (searched (bookOf b)) (store-is b (st .dom) (domains (bookOf b) L) (domains-store (bookOf b) L) (h .holds .domain)))
+      (s .shows A)

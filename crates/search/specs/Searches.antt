@@ -1,36 +1,31 @@
 -- The search of a finish: what it starts from, and what it gives.
 use mathlib.Core.Path.{_≡_}
-use mathlib.Core.Bool.{Bool, false, true}
-use mathlib.Core.Option.{Option, none, some}
-use mathlib.Core.List.{List, []}
+use mathlib.Core.Bool.{true}
+use mathlib.Core.List.{List}
 use Prim.Native.Nat.{_<_, ℕ}
 use lib.ListN.{getD}
-use Rattle.model.specs.Answers.{finishOutcome, outcomeMasks}
+use Rattle.model.specs.Answers.{Outcome, limited, outcomeMasks, outcomeNumber, outcomeTries}
+use Rattle.model.specs.Books.{columnCount}
 use Rattle.model.specs.Orders.{Entry, domains}
-use Rattle.model.specs.Search.{Searched, after, searched}
+use Rattle.model.specs.Search.{Searched, after, following, searched}
 use Rattle.model.specs.Stores.{has}
-use Rattle.model.specs.Tests.{tab}
 use Rattle.book.specs.Decoding.{bookOf}
 use Rattle.heads.specs.Heads.{columnsOf}
 use Rattle.engine.specs.Propagation.{isOpen, storeIn}
 use Rattle.engine.specs.States.{StateIs}
 use Rattle.engine.specs.declared.state.State.{State}
-use Rattle.search.specs.declared.Found.{Found}
+use Rattle.search.specs.declared.Outcome.{Outcome as Held}
 
--- ---- what is found
--- "1 found, 2 none"
-abbrev pub isFound : Option (List ℕ) → Bool
-isFound (some x) = true
-isFound none = false
+-- ---- what is given
+-- f has what the outcome x shows: its number, its tries, and its masks over the domains D; "zero from C on"
+pub record OutcomeIs (b D : List ℕ) (x : Outcome) (f : Held) : Type 0 where
+  pub number : f .number ≡ outcomeNumber x
+  pub tries : f .tries ≡ outcomeTries x
+  pub masks : (c : ℕ) → c < 16 → getD (f .masks) c 0 ≡ getD (outcomeMasks (columnCount (bookOf b)) D x) c 0
 
--- the masks of what a finish shows, where no domain is: "the full set there, one bit for each column, or zeros for none"
-abbrev pub solutionMasks : ℕ → Option (List ℕ) → List ℕ
-solutionMasks C o = outcomeMasks C [] (finishOutcome o)
-
--- f is what the search g came to: whether there is a solution, and its masks; "zero from C on"
-pub record FoundIs (b : List ℕ) (g : Searched) (f : Found) : Type 0 where
-  pub ok : f .ok ≡ isFound (g .solution)
-  pub shown : f .dom ≡ tab 16 (λ c. getD (solutionMasks (columnsOf b) (g .solution)) c 0)
+-- f is what the search g comes to with the limit n, after m tries. It shows no domain, so D is any
+pub record Reaches (b : List ℕ) (n m : ℕ) (g : Searched) (f : Held) : Type 0 where
+  pub shows : (D : List ℕ) → OutcomeIs b D (limited n (following m g)) f
 
 -- document 01's search in the domains D, and once column c is set to v: "The search sets the lowest column that isn't single to each of its values in
 -- rising order and settles"
@@ -40,9 +35,10 @@ searchIn b D = searched (bookOf b) (storeIn b D)
 abbrev pub searchAfter : List ℕ → List ℕ → ℕ → ℕ → Searched
 searchAfter b D c v = searched (bookOf b) (after (bookOf b) (storeIn b D) c v)
 
--- a finish of the state st is the search in the current domains, whatever trail stands. That it finds the first full set is `search-first` (model)
-abbrev pub Finishes : List ℕ → State → Found → Type 0
-Finishes b st f = (L : List Entry) → StateIs b L st → FoundIs b (searched (bookOf b) (domains (bookOf b) L)) f
+-- a finish of the state st with the limit n is the search in the current domains, whatever trail stands
+abbrev pub Finishes : List ℕ → State → ℕ → Held → Type 0
+Finishes b st n f =
+    (L : List Entry) → StateIs b L st → (D : List ℕ) → OutcomeIs b D (limited n (searched (bookOf b) (domains (bookOf b) L))) f
 
 -- ---- what the search stands at
 -- the arrays are the state of some trail, and it is not failed

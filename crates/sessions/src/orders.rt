@@ -3,7 +3,7 @@ use engine::state::*;
 ghost use mathlib.Core.Path.{_≡_};
 ghost use Prim.Native.Nat.{_<_};
 ghost use lib.ListN.{length};
-ghost use Rattle.model.specs.Orders.{backCauses, firstCause, markCauses, mask, narrowCauses, outside, someWrong, wrongPlace, zeroPlaces};
+ghost use Rattle.model.specs.Orders.{backCauses, finishCauses, firstCause, markCauses, mask, narrowCauses, outside, someWrong, tryLimit, wrongPlace, zeroPlaces};
 ghost use Rattle.book.specs.Verdicts.{Accepted};
 ghost use Rattle.heads.specs.Heads.{columnsOf};
 ghost use Rattle.book.specs.Decoding.{bookOf};
@@ -49,7 +49,7 @@ fn zero_places(kind: u8) -> u32
         return 252;
     }
     if kind == 4 {
-        return 254;
+        return 14;
     }
     0
 }
@@ -60,6 +60,18 @@ pub fn mask_of(order: &[u8]) -> u32
     ensures { λ r. ⌜ r ≡ mask (now (order .entry)) ⌝ }
 {
     fields::word_at(order, 4)
+}
+
+// The limit of a finish, in the bytes of a mask: the tries that it may make.
+pub fn limit_of(order: &[u8]) -> u32
+    requires { ⌜ length (now order) ≡ 8 ⌝ }
+    ensures { λ r. ⌜ r ≡ tryLimit (now (order .entry)) ⌝ }
+{
+    let n = mask_of(order);
+    if n == 0 {
+        return 65535;
+    }
+    n
 }
 
 // Whether m has a value at or above the V of column c.
@@ -110,6 +122,17 @@ fn refused_back(depth: usize, order: &[u8]) -> u32
     0
 }
 
+// The refusal of a finish whose bytes are right, or 0.
+fn refused_finish(order: &[u8]) -> u32
+    requires { ⌜ length (now order) ≡ 8 ⌝ }
+    ensures { λ r. ⌜ r ≡ firstCause (finishCauses (now (order .entry))) ⌝ }
+{
+    if 65535 < limit_of(order) {
+        return 27;
+    }
+    0
+}
+
 // The refusal of an order, or 0 where it is accepted. Of the session its depth is enough.
 pub fn refusal(book: &[u8], depth: usize, order: &[u8]) -> u32
     requires { ⌜ Accepted (now book) × (length (now order) ≡ 8) ⌝ }
@@ -129,7 +152,7 @@ pub fn refusal(book: &[u8], depth: usize, order: &[u8]) -> u32
         return refused_back(depth, order);
     }
     if kind == 4 {
-        return 0;
+        return refused_finish(order);
     }
     20
 }

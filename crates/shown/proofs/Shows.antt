@@ -1,93 +1,47 @@
 -- Laws of what an answer shows. Assumes nothing.
 use mathlib.Core.Path.{_∙_, _≡_, ap, refl, subst, sym}
-use mathlib.Core.Bool.{false, false≢true, true}
 use mathlib.Core.Logic.{_⊎_, inl, inr}
-use mathlib.Core.Option.{Option, none, some}
 use mathlib.Core.List.{List, []}
-use Prim.Native.Nat.{_*_, _<_, ℕ}
+use Prim.Native.Nat.{_*_, ℕ}
 use native.Mathlib.Omega.{arith}
 use lib.ListN.{getD}
 use Rattle.fields.specs.Bytes.{over}
-use Rattle.model.specs.Answers.{answer, answerBytes, finishOutcome, outcome, outcomeMasks, outcomeNumber, showing, stateOnly}
+use Rattle.model.specs.Answers.{answer, answerBytes, outcome, outcomeMasks, showing, stateOnly}
 use Rattle.model.specs.Books.{columnCount}
-use Rattle.model.specs.Orders.{Entry, depth, domains, kind, push}
-use Rattle.model.specs.Search.{searchSolution}
-use Rattle.model.specs.Solutions.{firstSolution}
+use Rattle.model.specs.Orders.{Entry, depth, domains, kind, push, tryLimit}
 use Rattle.model.proofs.Answers.{domainBytes-same, outcome-finish, outcome-other}
 use Rattle.model.proofs.Refusals.{push-finish, push-ind, push-refused}
-use Rattle.model.proofs.Search.{search-first}
-use Rattle.model.proofs.Tests.{getD-tab}
-use Rattle.model.proofs.Trails.{domains-checkpoint, domains-closed, domains-store}
+use Rattle.model.proofs.Trails.{domains-checkpoint}
 use Rattle.book.specs.Decoding.{bookOf}
-use Rattle.heads.specs.Heads.{columnsOf}
-use Rattle.book.specs.Verdicts.{Accepted}
-use Rattle.book.proofs.Decoding.{accepted-right, right-formed}
 use Rattle.engine.specs.States.{StateIs}
 use Rattle.engine.specs.declared.state.State.{State}
-use Rattle.engine.proofs.Propagation.{columns-count}
-use Rattle.search.specs.Searches.{Finishes, isFound, solutionMasks}
-use Rattle.search.specs.declared.Found.{Found}
+use Rattle.search.specs.Searches.{Finishes, OutcomeIs}
+use Rattle.search.specs.declared.Outcome.{Outcome as Held}
 use Rattle.status.specs.Status.{Summarises, SummaryIs}
 use Rattle.status.specs.declared.Summary.{Summary}
 use Rattle.answers.specs.Answers.{answerIn}
-use Rattle.answers.specs.declared.Answer.{Answer as Written}
-use Rattle.shown.specs.Shows.{AnswersAt, OpensWith, OutcomeIs, ShowsAt, ShowsBesides, ShowsFound, TellsAfter}
 use Rattle.answers.specs.Spaces.{Adds}
-use Rattle.shown.specs.declared.Outcome.{Outcome as Held}
+use Rattle.answers.specs.declared.Answer.{Answer as Written}
 use Rattle.answers.proofs.Spaces.{adds}
+use Rattle.shown.specs.Shows.{AnswersAt, OpensWith, ShowsAt, ShowsBesides, TellsAfter}
 
 -- ---- what is shown besides the state
-found-number : (o : Option (List ℕ)) → isFound o ≡ true → 1 ≡ outcomeNumber (finishOutcome o)
-found-number (some x) e = refl
-found-number none e = absurd (false≢true e)
-
-none-number : (o : Option (List ℕ)) → isFound o ≡ false → 2 ≡ outcomeNumber (finishOutcome o)
-none-number (some x) e = absurd (false≢true (sym e))
-none-number none e = refl
-
--- a finish shows no domain
-finish-masks : (C : ℕ) (D : List ℕ) (o : Option (List ℕ)) → solutionMasks C o ≡ outcomeMasks C D (finishOutcome o)
-finish-masks C D (some x) = refl
-finish-masks C D none = refl
-
-module _ {b : List ℕ} {st : State} where
-  -- what the search finds
-  module _ (acc : Accepted b) {g : Found} (h : Finishes b st g) (f : Held) (m : f .masks ≡ g .dom) {L : List Entry} (is : StateIs b L st) where
-    abbrev o : Option (List ℕ)
-    o = firstSolution (bookOf b) (domains (bookOf b) L)
-
-    -- the search finds the first solution
-    first : searchSolution (bookOf b) (domains (bookOf b) L) ≡ firstSolution (bookOf b) (domains (bookOf b) L)
-    first = search-first (bookOf b) (right-formed b (accepted-right b acc)) (domains (bookOf b) L) (domains-store (bookOf b) L) (domains-closed (bookOf b) L)
-
-    masks : (c : ℕ) → c < 16 → getD (f .masks) c 0 ≡ getD (outcomeMasks (columnCount (bookOf b)) (domains (bookOf b) L) (finishOutcome o)) c 0
-    masks c l =
-        ap (λ (D : List ℕ). getD D c 0) (m ∙ h L is .shown)
-        ∙ getD-tab 0 16 (λ c. getD (solutionMasks (columnsOf b) (searchSolution (bookOf b) (domains (bookOf b) L))) c 0) c l
-        ∙ ap (λ (x : Option (List ℕ)). getD (solutionMasks (columnsOf b) x) c 0) first
-        ∙ ap (λ (D : List ℕ). getD D c 0)
-        (ap (λ (C : ℕ). solutionMasks C o) (sym (columns-count b)) ∙ finish-masks (columnCount (bookOf b)) (domains (bookOf b) L) o)
-
-    pub found-is : g .ok ≡ true → f .number ≡ 1 → OutcomeIs b L (finishOutcome o) f
-    found-is t n = record { number = n ∙ found-number o (sym (h L is .ok ∙ ap isFound first) ∙ t); masks = masks }
-
-    pub none-is : g .ok ≡ false → f .number ≡ 2 → OutcomeIs b L (finishOutcome o) f
-    none-is t n = record { number = n ∙ none-number o (sym (h L is .ok ∙ ap isFound first) ∙ t); masks = masks }
-
+module _ {b : List ℕ} {st : State} {f : Held} where
   -- the state alone
-  pub state-is : {f : Held} → f .number ≡ 0 → f .masks ≡ st .dom → {L : List Entry} → StateIs b L st → OutcomeIs b L stateOnly f
-  state-is n m h = record { number = n; masks = λ c l. ap (λ (D : List ℕ). getD D c 0) m ∙ h .holds .domain c }
+  pub state-is : (f .number ≡ 0) × (f .tries ≡ 0) × (f .masks ≡ st .dom) → {L : List Entry} → StateIs b L st
+      → OutcomeIs b (domains (bookOf b) L) stateOnly f
+  state-is s h = record { number = s .0; tries = s .1; masks = λ c l. ap (λ (D : List ℕ). getD D c 0) (s .2) ∙ h .holds .domain c }
 
-  module _ (x : List ℕ) {r : ℕ} {f : Held} where
+  module _ (x : List ℕ) {r : ℕ} where
     -- a refused order, and one of another kind
-    pub state-besides : f .number ≡ 0 → f .masks ≡ st .dom → (r ≡ 0 → kind x ≡ 4 → ⊥) → ShowsBesides b x r st f
-    state-besides n m not-finish L e h =
-        rw (outcome-other (bookOf b) L x (λ z. not-finish (e ∙ z .accepted) (z .of-kind))) (state-is n m h)
+    pub state-besides : (f .number ≡ 0) × (f .tries ≡ 0) × (f .masks ≡ st .dom) → (r ≡ 0 → kind x ≡ 4 → ⊥) → ShowsBesides b x r st f
+    state-besides s not-finish L e h =
+        rw (outcome-other (bookOf b) L x (λ z. not-finish (e ∙ z .accepted) (z .of-kind))) (state-is s h)
 
-    pub finish-besides : ShowsFound b st f → r ≡ 0 → kind x ≡ 4 → ShowsBesides b x r st f
-    finish-besides g z k L e h =
+    pub finish-besides : {n : ℕ} → n ≡ tryLimit x → Finishes b st n f → r ≡ 0 → kind x ≡ 4 → ShowsBesides b x r st f
+    finish-besides q g z k L e h =
         let p = push-finish (bookOf b) L x k in
-        rw (p, outcome-finish (bookOf b) L x (record { of-kind = k; accepted = sym e ∙ z })) (g L (rw p at h))
+        rw (p, outcome-finish (bookOf b) L x (record { of-kind = k; accepted = sym e ∙ z }), ← q) (g L (rw p at h) (domains (bookOf b) L))
 
 -- ---- what the state says
 -- the same domains, the same summary
@@ -113,7 +67,7 @@ module _ {b : List ℕ} (x : List ℕ) {r : ℕ} {t : Summary} {st : State} wher
 -- ---- one answer
 -- the answer that the code holds has the bytes of the model's
 pub shows-at : {d r : ℕ} {t : Summary} {f : Held} (i : ℕ) (space : List ℕ) {a : Written} {space′ : List ℕ}
-    → answerIn a ≡ record { refused = r; status = t .status; depth = d; outcome = f .number; done = t .done; shown = f .masks }
+    → answerIn a ≡ record { refused = r; status = t .status; depth = d; outcome = f .number; done = t .done; tries = f .tries; shown = f .masks }
     → space′ ≡ over space (72 * i) (answerBytes (answerIn a)) → ShowsAt t d r f i space space′
 unfolding showing answerBytes
 shows-at {d} {r} {t} {f} i space {a} {space′} q e b L x h dd k =
@@ -124,7 +78,7 @@ shows-at {d} {r} {t} {f} i space {a} {space′} q e b L x h dd k =
     same : answerBytes (answerIn a) ≡ answerBytes (showing (bookOf b) L r x)
     same =
         ap answerBytes q
-        ∙ rw (h .status, h .done, dd, k .number, domainBytes-same (f .masks) (outcomeMasks (columnCount (bookOf b)) (domains (bookOf b) L) x) 16 (k .masks)) refl
+        ∙ rw (h .status, h .done, dd, k .number, k .tries, domainBytes-same (f .masks) (outcomeMasks (columnCount (bookOf b)) (domains (bookOf b) L) x) 16 (k .masks)) refl
 
 pub answers-order : {b : List ℕ} {st : State} {d r : ℕ} {t t′ : Summary} {f : Held} (x : List ℕ) (i : ℕ) (space : List ℕ) {space′ : List ℕ}
     → ShowsBesides b x r st f → TellsAfter b x r t st t′ → ShowsAt t′ d r f i space space′ → AnswersAt b x r st d t i space t′ space′
@@ -132,7 +86,7 @@ unfolding answer
 answers-order {b} {st} {d} {r} {t} {t′} {f} x i space g s w L e h k q =
     let after = s L e h k in (after, rw e at (w b (push (bookOf b) L x) (outcome (bookOf b) L x) after q (g L e k)))
 
-pub opens-with : {b : List ℕ} {st : State} {t : Summary} {f : Held} (space : List ℕ) {space′ : List ℕ} → Summarises b st t → f .number ≡ 0
-    → f .masks ≡ st .dom → ShowsAt t 0 0 f 0 space space′ → OpensWith b st space t space′
+pub opens-with : {b : List ℕ} {st : State} {t : Summary} {f : Held} (space : List ℕ) {space′ : List ℕ} → Summarises b st t
+    → (f .number ≡ 0) × (f .tries ≡ 0) × (f .masks ≡ st .dom) → ShowsAt t 0 0 f 0 space space′ → OpensWith b st space t space′
 unfolding depth
-opens-with {b} space s n m w h = let told = s [] h in (told, w b [] stateOnly told refl (state-is n m h))
+opens-with {b} space s n w h = let told = s [] h in (told, w b [] stateOnly told refl (state-is n h))

@@ -1,34 +1,23 @@
 -- What an answer shows: of the state, and besides it.
 use mathlib.Core.Path.{_≡_}
 use mathlib.Core.List.{List, []}
-use Prim.Native.Nat.{_<_, ℕ}
-use lib.ListN.{getD}
-use Rattle.model.specs.Answers.{Outcome, answer, finishOutcome, opening, outcome, outcomeMasks, outcomeNumber, showing}
-use Rattle.model.specs.Books.{columnCount}
+use Prim.Native.Nat.{ℕ}
+use Rattle.model.specs.Answers.{Outcome, answer, opening, outcome, showing}
 use Rattle.model.specs.Orders.{Entry, depth, domains, push, refusal}
-use Rattle.model.specs.Solutions.{firstSolution}
 use Rattle.book.specs.Decoding.{bookOf}
 use Rattle.engine.specs.States.{StateIs}
 use Rattle.engine.specs.declared.state.State.{State}
+use Rattle.search.specs.Searches.{OutcomeIs}
+use Rattle.search.specs.declared.Outcome.{Outcome as Held}
 use Rattle.status.specs.Status.{SummaryIs}
 use Rattle.status.specs.declared.Summary.{Summary}
 use Rattle.answers.specs.Spaces.{Adds}
-use Rattle.shown.specs.declared.Outcome.{Outcome as Held}
-
--- f has what the outcome x shows: its number, and its masks over the domains of the trail L; "zero from C on"
-pub record OutcomeIs (b : List ℕ) (L : List Entry) (x : Outcome) (f : Held) : Type 0 where
-  pub number : f .number ≡ outcomeNumber x
-  pub masks : (c : ℕ) → c < 16 → getD (f .masks) c 0 ≡ getD (outcomeMasks (columnCount (bookOf b)) (domains (bookOf b) L) x) c 0
-
--- f is what a finish of the state st finds, whatever trail stands
-abbrev pub ShowsFound : List ℕ → State → Held → Type 0
-ShowsFound b st f =
-    (L : List Entry) → StateIs b L st → OutcomeIs b L (finishOutcome (firstSolution (bookOf b) (domains (bookOf b) L))) f
 
 -- f is what the order o shows, which has the refusal r and leaves the state st, whatever trail stood before it
 abbrev pub ShowsBesides : List ℕ → List ℕ → ℕ → State → Held → Type 0
 ShowsBesides b o r st f =
-    (L : List Entry) → r ≡ refusal (bookOf b) L o → StateIs b (push (bookOf b) L o) st → OutcomeIs b (push (bookOf b) L o) (outcome (bookOf b) L o) f
+    (L : List Entry) → r ≡ refusal (bookOf b) L o → StateIs b (push (bookOf b) L o) st
+    → OutcomeIs b (domains (bookOf b) (push (bookOf b) L o)) (outcome (bookOf b) L o) f
 
 -- where t is what the trail says that stood before the order o, t′ is what the one says that stands after it; the order has the refusal r and leaves st
 abbrev pub TellsAfter : List ℕ → List ℕ → ℕ → Summary → State → Summary → Type 0
@@ -38,7 +27,7 @@ TellsAfter b o r t st t′ =
 -- answer i shows what t says at depth d, with the refusal r, and f besides, of whatever book and trail
 abbrev pub ShowsAt : Summary → ℕ → ℕ → Held → ℕ → List ℕ → List ℕ → Type 0
 ShowsAt t d r f i space space′ =
-    (b : List ℕ) (L : List Entry) (x : Outcome) → SummaryIs b L t → d ≡ depth L → OutcomeIs b L x f → Adds i (showing (bookOf b) L r x) space space′
+    (b : List ℕ) (L : List Entry) (x : Outcome) → SummaryIs b L t → d ≡ depth L → OutcomeIs b (domains (bookOf b) L) x f → Adds i (showing (bookOf b) L r x) space space′
 
 -- answer i is that to the order o, which has the refusal r and leaves the state st at depth d, whatever trail stood before it and said t; t′ is what the
 -- one says that stands after it

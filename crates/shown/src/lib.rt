@@ -4,6 +4,8 @@
 // before it.
 use answers::*;
 use engine::state::*;
+use search::Outcome;
+use sessions::orders::limit_of;
 use status::*;
 ghost use mathlib.Core.Path.{_≡_};
 ghost use Prim.Native.Nat.{_+_, _*_, _<_, _≤_};
@@ -11,51 +13,21 @@ ghost use lib.ListN.{length};
 ghost use Rattle.engine.specs.Layouts.{LayoutOf};
 ghost use Rattle.engine.specs.States.{SomeState};
 ghost use Rattle.status.specs.Status.{SheetsLaid};
-ghost use Rattle.shown.specs.Shows.{AnswersAt, OpensWith, ShowsAt, ShowsBesides, ShowsFound, TellsAfter};
-
-// What an answer shows besides the state: byte 3, and the masks in the domains' place.
-pub struct Outcome {
-    pub number: u8,
-    pub masks: [u32; 16],
-}
+ghost use Rattle.shown.specs.Shows.{AnswersAt, OpensWith, ShowsAt, ShowsBesides, TellsAfter};
 
 // The state alone.
 fn state_only(st: State) -> Outcome
-    ensures { λ r. ⌜ (r .number ≡ 0) × (r .masks ≡ st .dom) ⌝ }
+    ensures { λ r. ⌜ (r .number ≡ 0) × (r .tries ≡ 0) × (r .masks ≡ st .dom) ⌝ }
 {
     let dom = st.dom;
     Outcome {
         number: 0,
+        tries: 0,
         masks: dom,
     }
 }
 
-// What a finish of the state finds.
-fn finished(
-    book: &[u8],
-    begins: &[usize; 8],
-    scopes: &[u32; 8],
-    shorts: &[u32; 8],
-    st: State,
-) -> Outcome
-    requires { ⌜ LayoutOf (now book) (now begins) (now scopes) (now shorts) × SomeState (now book) st ⌝ }
-    ensures { λ r. ⌜ ShowsFound (now (book .entry)) st r ⌝ }
-{
-    let f = search::finish(book, begins, scopes, shorts, st);
-    let masks = f.dom;
-    if f.ok {
-        return Outcome {
-            number: 1,
-            masks: masks,
-        };
-    }
-    Outcome {
-        number: 2,
-        masks: masks,
-    }
-}
-
-// What an order shows that has this refusal or 0 and leaves this state: an accepted finish what it finds, any other the state alone.
+// What an order shows that has this refusal or 0 and leaves this state: an accepted finish what its search comes to, any other the state alone.
 fn outcome_of(
     book: &[u8],
     begins: &[usize; 8],
@@ -72,7 +44,7 @@ fn outcome_of(
         return state_only(st);
     }
     if order[0] == 4 {
-        return finished(book, begins, scopes, shorts, st);
+        return search::finish(book, begins, scopes, shorts, st, limit_of(order));
     }
     state_only(st)
 }
@@ -126,6 +98,7 @@ fn show(answers: &mut [u8], i: usize, refused: u32, depth: usize, told: Summary,
             depth: depth as u8,
             outcome: f.number,
             done: told.done,
+            tries: f.tries,
             shown: shown,
         },
     );

@@ -2,14 +2,21 @@
 //! anything.
 //!
 //! The opponents are frozen at document 01, so only what newer papers leave alone is compared: plain
-//! books and plain orders; of a book that isn't plain, its length and its checks.
+//! books and plain orders; of a book that isn't plain, its length and its checks. They know no limit of tries
+//! and may search without end, so a finish that the library stops is left out; but they count tries, so those
+//! of the others are compared.
 
 use crate::gecode::{distances, Tables};
 use crate::measurement::Kind;
-use crate::opponents::{self, finish, Packed, Shown, Words, NOTHING};
+use crate::opponents::{self, finish, Finish, Packed, Shown, Words, NOTHING};
 use crate::subjects::Subject;
-use crate::Effort;
+use crate::{timed, Effort};
 use conformance::{Case, Order, Run};
+use fitting::Outcome;
+use std::num::NonZeroU16;
+
+/// "Byte 3 is 3, stopped"
+const STOPPED: u8 = 3;
 
 /// Panics where they differ on a seeded input.
 pub fn on_seeds(effort: &Effort) {
@@ -20,8 +27,9 @@ pub fn on_seeds(effort: &Effort) {
         let Run { book, orders, .. } = Run::new(seed);
         if on_book(&book) {
             let plain = orders.as_chunks().0.iter().filter(|order| is_plain(order));
-            let orders: Vec<Order> = plain.take(256).copied().collect();
+            let orders = ending(&book, plain.take(256).copied().collect());
             let gecode = (seed < effort.gecode).then(|| Tables::of(&book)).flatten();
+            on_tries(&book);
             on_list(&book, &orders, gecode.as_ref());
         }
     }
@@ -41,8 +49,7 @@ pub fn on_subject(subject: &Subject, gecode: Option<&Tables>) {
     for numbers in [by_library(book, &[0]), by_opponents(book, &[0])[0].clone()] {
         assert_eq!(numbers.0, 10 << 16, "{name}");
     }
-    let finishes = [finish::<Words>(book), finish::<Packed>(book)];
-    assert_eq!(finishes[0], finishes[1], "{name}");
+    let finished = on_tries(book).expect("its finish ends");
     for kind in Kind::ALL {
         for list in subject.lists(kind) {
             let shown = on_list(book, &list, gecode);
@@ -53,11 +60,34 @@ pub fn on_subject(subject: &Subject, gecode: Option<&Tables>) {
                 // A dead session would be no measure of a narrow.
                 Kind::Narrow => assert_ne!(last.status, 0, "{name}"),
                 Kind::ToAndFro => assert_eq!(last, shown[0], "{name}"),
-                Kind::Finish => assert_eq!(last.domains, finishes[0].domains, "{name}"),
+                Kind::Finish => assert_eq!(last.domains, finished.domains, "{name}"),
                 _ => {}
             }
         }
     }
+}
+
+/// What a finish at the opening comes to by the opponents; it must take the library as many tries. None where the
+/// library is stopped.
+fn on_tries(book: &[u8]) -> Option<Finish> {
+    let (outcome, tries) = timed::finish(book, NonZeroU16::MAX);
+    (outcome != Outcome::Stopped).then(|| {
+        let [words, packed] = [finish::<Words>(book), finish::<Packed>(book)];
+        assert_eq!(words, packed);
+        assert_eq!(words.tries, tries.into());
+        words
+    })
+}
+
+/// These orders without the finishes that the library stops. A finish changes nothing, so the others show what
+/// they showed.
+fn ending(book: &[u8], orders: Vec<Order>) -> Vec<Order> {
+    let mut answers = vec![0; fitting::space_for(orders.len())];
+    fitting::run_number(book, orders.as_flattened(), &mut answers);
+    let answers = answers.as_chunks::<72>().0[1..].iter();
+    let ends = answers.map(|answer| answer[3] != STOPPED);
+    let kept = orders.into_iter().zip(ends).filter(|(_, ends)| *ends);
+    kept.map(|(order, _)| order).collect()
 }
 
 /// Nobody but the library knows a book with short rows: it must accept it, and its narrows must leave

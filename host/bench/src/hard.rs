@@ -10,10 +10,7 @@ const TRIES: u64 = 2_500;
 /// Names, books, and what is timed on them. All take a finish; one without a full set and one with it
 /// take everything.
 pub fn books() -> [(String, Book, &'static [Kind]); 6] {
-    // The edges of a tetrahedron and of a cube.
     let tetrahedron = [[0, 1], [0, 2], [0, 3], [1, 2], [1, 3], [2, 3]];
-    let next = |corner| [1, 2, 4].map(move |step| [corner, corner | step]);
-    let cube: Vec<[u8; 2]> = (0..8).flat_map(next).filter(|[a, b]| a < b).collect();
     let parity = |corners, edges: &[_], values| {
         let name = format!("hard, none: parity, {} columns", edges.len());
         (name, parity(corners, edges, values))
@@ -22,7 +19,7 @@ pub fn books() -> [(String, Book, &'static [Kind]); 6] {
     let with = |kinds, (name, book)| (name, book, kinds);
     [
         with(only_finish, parity(4, &tetrahedron, 10)),
-        with(&Kind::ALL, parity(8, &cube, 4)),
+        with(&Kind::ALL, parity(8, &cube(), 4)),
         with(only_finish, random(18, 320, false)),
         with(&Kind::ALL, random(18, 340, true)),
         with(only_finish, random(23, 508, false)),
@@ -30,10 +27,16 @@ pub fn books() -> [(String, Book, &'static [Kind]); 6] {
     ]
 }
 
+/// The edges of a cube.
+pub fn cube() -> Vec<[u8; 2]> {
+    let next = |corner| [1, 2, 4].map(move |step| [corner, corner | step]);
+    (0..8).flat_map(next).filter(|[a, b]| a < b).collect()
+}
+
 /// A graph, three edges at each corner: each edge is a column, and each corner a sheet, whose rows
 /// have an even sum. Only the last corner's have an odd one, and as each edge counts twice there is no
 /// full set. No sheet tells before its last column but one is single.
-fn parity(corners: u8, edges: &[[u8; 2]], values: u8) -> Book {
+pub fn parity(corners: u8, edges: &[[u8; 2]], values: u8) -> Book {
     let count = u16::from(values);
     let row = |n| [n % count, n / count % count, n / count / count].map(|value| value as u8);
     let rows = (0..count.pow(3)).map(|n| row(n).to_vec());

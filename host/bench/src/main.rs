@@ -6,7 +6,8 @@
 //! `-- --out FOLDER` it writes there. Both sides are code for plain x86-64, and all are called in turn,
 //! round by round.
 //!
-//! - What is timed: `subjects`, with the books of `hard` and of `worst`.
+//! - What is timed: `subjects`, with the books of `hard` and of `worst`; and those of `limit`, which the limit of
+//!   a finish stops.
 //! - Who is timed: the library, `opponents`, frozen at document 01, and `gecode`. `agree` sees first
 //!   that all show the same.
 //! - The timing: `timed`, which says who does what, and `race`.
@@ -15,6 +16,7 @@
 mod agree;
 mod gecode;
 mod hard;
+mod limit;
 mod measurement;
 mod opponents;
 mod page;
@@ -24,8 +26,9 @@ mod subjects;
 mod timed;
 mod worst;
 
-use measurement::{Kind, Measurement};
+use measurement::{Kind, Measurement, Tries};
 use page::Page;
+use std::num::NonZeroU16;
 use std::path::{Path, PathBuf};
 use std::process::ExitCode;
 use std::time::Duration;
@@ -35,6 +38,9 @@ const USAGE: &str = "options: --quick (few rounds, no files), --out FOLDER (for 
 
 /// The repository's documents.
 const DOCUMENTS: &str = concat!(env!("CARGO_MANIFEST_DIR"), "/../../docs");
+
+/// What a quick run lets a finish try.
+const FEW_TRIES: NonZeroU16 = NonZeroU16::new(500).unwrap();
 
 /// How much is compared, and how long is timed.
 struct Effort {
@@ -49,6 +55,8 @@ struct Effort {
     fewest: u64,
     /// What rounds past the fewest may take.
     patience: Duration,
+    /// The tries of a finish that is stopped.
+    limit: NonZeroU16,
 }
 
 impl Effort {
@@ -63,6 +71,7 @@ impl Effort {
             rounds: choice(7, 301),
             fewest: choice(3, 15),
             patience: Duration::from_millis(choice(50, 3_000)),
+            limit: if quick { FEW_TRIES } else { NonZeroU16::MAX },
         }
     }
 }
@@ -76,10 +85,11 @@ fn main() -> ExitCode {
     let subjects = subjects::subjects();
     let page = Page {
         measurements: &measured(&subjects, effort),
+        stopped: &stopped(effort),
         subjects: &subjects,
         effort,
     };
-    println!("{}\n\n{}", page.machine(), page.table());
+    println!("{}\n\n{}\n{}", page.machine(), page.table(), page.tries());
     if let Some(folder) = folder {
         put(&folder.join("BENCH.md"), &page.text());
         let picture = picture::svg(page.measurements, &page.machine());
@@ -121,6 +131,13 @@ fn measured(subjects: &[Subject], effort: &Effort) -> Vec<Measurement> {
         }
     }
     measurements
+}
+
+/// A finish of each book that the limit stops.
+fn stopped(effort: &Effort) -> Vec<Tries> {
+    eprintln!("timed: {} tries", effort.limit);
+    let time = |(name, book)| timed::stopped(name, &conformance::write(&book), effort);
+    limit::books().into_iter().map(time).collect()
 }
 
 /// Writes a file. Where that can't be done the figures have been printed all the same.

@@ -1,5 +1,7 @@
 //! What was measured: the one list from which the page and the picture are made.
 
+use fitting::Outcome;
+
 /// What is timed.
 #[derive(Clone, Copy, PartialEq, Eq, Debug)]
 pub enum Kind {
@@ -60,6 +62,8 @@ pub struct Measurement {
     pub book: String,
     /// What came of it, besides the times.
     pub note: String,
+    /// Of a finish: its tries.
+    pub tries: Option<Tries>,
     /// The library's time in nanoseconds.
     pub library: f64,
     /// Those of the opponents, where there is something to compare.
@@ -86,12 +90,40 @@ impl Measurement {
     }
 }
 
+/// The tries of the library in a finish: one row of their table.
+#[derive(Clone)]
+pub struct Tries {
+    /// The name of the book.
+    pub book: String,
+    /// Found, none or stopped.
+    pub outcome: Outcome,
+    /// How many there were.
+    pub tries: u16,
+    /// The time of the finish in nanoseconds.
+    pub nanos: f64,
+}
+
+impl Tries {
+    /// The time for each in nanoseconds.
+    pub fn each(&self) -> f64 {
+        self.nanos / f64::from(self.tries.max(1))
+    }
+
+    /// What came of them, in words.
+    pub fn said(&self) -> String {
+        let Self { outcome, tries, .. } = self;
+        let word = if *tries == 1 { "try" } else { "tries" };
+        format!("{outcome} after {} {word}", thousands((*tries).into()))
+    }
+}
+
 /// Nanoseconds to three figures, in a unit that fits.
 pub fn time(nanos: f64) -> String {
     let (number, unit) = match nanos {
         small if small < 999.5 => (small, "ns"),
         middle if middle < 999.5e3 => (middle / 1e3, "µs"),
-        large => (large / 1e6, "ms"),
+        large if large < 999.5e6 => (large / 1e6, "ms"),
+        longest => (longest / 1e9, "s"),
     };
     let places = match number {
         small if small < 9.995 => 2,
@@ -115,10 +147,10 @@ mod tests {
 
     #[test]
     fn numbers_are_told_in_words() {
-        let times = [3.456, 999.4, 999.6, 12_345.0, 39_493_000.0].map(time);
+        let times = [3.456, 999.4, 999.6, 12_345.0, 39_493_000.0, 71.23e9].map(time);
         assert_eq!(
             times,
-            ["3.46 ns", "999 ns", "1.00 µs", "12.3 µs", "39.5 ms"]
+            ["3.46 ns", "999 ns", "1.00 µs", "12.3 µs", "39.5 ms", "71.2 s"]
         );
         let numbers = [0, 508, 16_896, 1_000_067].map(thousands);
         assert_eq!(numbers, ["0", "508", "16,896", "1,000,067"]);

@@ -1,8 +1,9 @@
 //! The page of the documents: the words of `page.md`, and in them the figures of the run.
 
 use crate::gecode;
-use crate::measurement::{thousands, time, Kind, Measurement, Opponent};
-use crate::subjects::Subject;
+use crate::limit;
+use crate::measurement::{thousands, time, Kind, Measurement, Opponent, Tries};
+use crate::subjects::{size_of, Subject};
 use crate::Effort;
 
 /// Ratios within a tenth of 1 count as alike; what is shown as 1.10 is within.
@@ -11,6 +12,8 @@ const ALIKE: f64 = 1.105;
 /// What is shown of a run.
 pub struct Page<'a> {
     pub measurements: &'a [Measurement],
+    /// Finishes that their limit stopped.
+    pub stopped: &'a [Tries],
     pub subjects: &'a [Subject],
     pub effort: &'a Effort,
 }
@@ -28,6 +31,10 @@ impl Page<'_> {
         fill("machine", &self.machine());
         fill("gecode", &gecode);
         fill("table", &self.table());
+        fill("tries", &self.tries());
+        fill("limit", &thousands(self.effort.limit.get().into()));
+        fill("worst try", &self.worst_try());
+        fill("books of the limit", &books_of_the_limit());
         fill("books", &self.subjects.iter().map(book).collect::<String>());
         fill("seeded books", &thousands(self.effort.books));
         fill("seeded lists", &thousands(self.effort.lists));
@@ -66,6 +73,33 @@ impl Page<'_> {
             text += &line(&it.book, &time(it.library), ratios, &it.note);
         }
         text
+    }
+
+    /// The tries of every finish, laid out in the same way.
+    pub fn tries(&self) -> String {
+        let mut text = String::from(HEAD_OF_TRIES);
+        let finishes = self.measurements.iter().filter_map(|it| it.tries.as_ref());
+        for it in finishes.chain(self.stopped) {
+            let (each, said) = (it.each(), it.said());
+            let a_second = match 1e9 / each {
+                whole if whole.is_finite() => thousands(whole as u64),
+                _ => "-".into(),
+            };
+            let (whole, each) = (time(it.nanos), time(each));
+            let book = &it.book;
+            text +=
+                &format!("| {book:32} | {said:26} | {whole:>7} | {each:>7} | {a_second:>14} |\n");
+        }
+        text
+    }
+
+    /// The time of the slowest tries, in words.
+    fn worst_try(&self) -> String {
+        let slowest = |a: &&Tries, b: &&Tries| a.each().total_cmp(&b.each());
+        let worst = self.stopped.iter().max_by(slowest);
+        worst.map_or("-".into(), |it| {
+            format!("{} ({}: {})", time(it.each()), it.book, time(it.nanos))
+        })
     }
 
     /// How the library does against this opponent, over all rows.
@@ -108,6 +142,19 @@ const HEAD: &str = "\
 |--------------------------------|--------:|-----------------:|---------:|---------:|------------------:|--------:|----------------------------------------|
 ";
 
+const HEAD_OF_TRIES: &str = "\
+| book                             | outcome                    |    time |   a try | tries a second |
+|----------------------------------|----------------------------|--------:|--------:|---------------:|
+";
+
+fn books_of_the_limit() -> String {
+    let book = |(name, book)| {
+        let length = conformance::write(&book).len();
+        format!("- **{name}**: {}\n", size_of(&book, length))
+    };
+    limit::books().into_iter().map(book).collect()
+}
+
 fn line(book: &str, library: &str, ratios: [String; Opponent::ALL.len()], note: &str) -> String {
     let [hand, packed, gecode, with_tables, plain] = ratios;
     format!(
@@ -118,13 +165,21 @@ fn line(book: &str, library: &str, ratios: [String; Opponent::ALL.len()], note: 
 #[cfg(test)]
 mod tests {
     use super::*;
+    use fitting::Outcome;
 
     #[test]
     fn the_page_is_filled_and_has_every_row() {
+        let tries = |book: &str, outcome, tries| Tries {
+            book: book.into(),
+            outcome,
+            tries,
+            nanos: 100.0,
+        };
         let row = |kind, book: &str, hand| Measurement {
             kind,
             book: book.into(),
             note: String::new(),
+            tries: (kind == Kind::Finish).then(|| tries(book, Outcome::Found, 2)),
             library: 100.0,
             others: [Some(hand), None, Some(30_000.0), Some(-1.0), Some(80.0)],
             rounds: 301,
@@ -133,12 +188,14 @@ mod tests {
         let measurements = Kind::ALL.map(rows);
         let page = Page {
             measurements: measurements.as_flattened(),
+            stopped: &[tries("endless", Outcome::Stopped, 5)],
             subjects: &[],
             effort: &Effort::new(true),
         };
         let text = page.text();
         assert!(!text.contains(['{', '}']), "{text}");
-        assert_eq!(text.matches("\n| easy ").count(), 7);
+        // In the table of tries once more.
+        assert_eq!(text.matches("\n| easy ").count(), 8);
         let ratios: String = text.split_whitespace().collect();
         assert!(
             ratios.contains("|hard|100ns|2.00|-|0.003|-|1.25||"),
@@ -147,6 +204,16 @@ mod tests {
         let width = |line: &str| line.chars().count();
         let widths: Vec<usize> = page.table().lines().map(width).collect();
         assert!(widths.iter().all(|width| *width == widths[0]));
+        let widths: Vec<usize> = page.tries().lines().map(width).collect();
+        assert!(widths.iter().all(|width| *width == widths[0]));
+        let words: String = page.tries().split_whitespace().collect();
+        for row in [
+            "|easy|foundafter2tries|100ns|50.0ns|20,000,000|",
+            "|endless|stoppedafter5tries|100ns|20.0ns|50,000,000|",
+        ] {
+            assert!(words.contains(row), "{words}");
+        }
+        assert!(text.contains("20.0 ns (endless: 100 ns)"), "{text}");
         let counts = "slower by more than a tenth in 7, alike in 7, faster in 0";
         assert!(text.contains(counts), "{text}");
         assert_eq!(text.matches("**: hard (2.00). ").count(), 7);

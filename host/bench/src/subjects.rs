@@ -247,7 +247,8 @@ fn visit(narrows: &[Order], first: usize) -> [Order; 17] {
     ]
 }
 
-fn size_of(book: &Book, bytes: usize) -> String {
+/// How large a book of so many bytes is, in words.
+pub fn size_of(book: &Book, bytes: usize) -> String {
     let sheets = &book.sheets;
     let values = span(book.counts.iter().map(|&count| count.into()));
     let rows = span(sheets.iter().map(|sheet| sheet.rows.len()));

@@ -2,14 +2,17 @@
 //! to a run.
 
 use crate::gecode::{distances, Tables};
-use crate::measurement::{thousands, time, Kind, Measurement, Opponent};
-use crate::opponents::{self, Finish, Packed, Shown, Words, NOTHING};
+use crate::measurement::{thousands, time, Kind, Measurement, Opponent, Tries};
+use crate::opponents::{self, Packed, Shown, Words, NOTHING};
 use crate::race::{median, race, Job};
 use crate::subjects::{Subject, TURNS};
 use crate::Effort;
 use conformance::Order;
+use fitting::{OrderList, Outcome};
 use std::cell::RefCell;
 use std::hint::black_box;
+use std::num::NonZeroU16;
+use std::time::Instant;
 
 /// What is done with a book: lists, and one that is taken off each of them. The figure is for one of so
 /// many parts.
@@ -72,10 +75,20 @@ pub fn measure(
             Some(best) => *best = Some(best.map_or(time, |best: f64| best.min(time))),
         }
     }
+    let tries = (kind == Kind::Finish).then(|| {
+        let (outcome, tries) = finish(&subject.book, NonZeroU16::MAX);
+        Tries {
+            book: subject.name.clone(),
+            outcome,
+            tries,
+            nanos: library,
+        }
+    });
     Measurement {
         kind,
         book: subject.name.clone(),
-        note: note(kind, &subject.book, library),
+        note: note(kind, &subject.book, tries.as_ref()),
+        tries,
         library,
         others,
         rounds,
@@ -165,23 +178,47 @@ fn by_gecode<'a>(kind: Kind, work: Work<'a>, tables: &'a Tables) -> Vec<Contende
     }
 }
 
+/// What a finish of the library at the opening of a book says, and its tries.
+pub fn finish(book: &[u8], limit: NonZeroU16) -> (Outcome, u16) {
+    let mut list = OrderList::new();
+    list.finish_within(limit).expect("an empty list has room");
+    let mut space = [0; fitting::space_for(1)];
+    let answers = fitting::run(book, &list, &mut space).expect("a right book");
+    let said = answers.last();
+    let said = said.outcome().zip(said.tries());
+    said.expect("an accepted finish")
+}
+
+/// Times the library alone on a finish that its limit stops. It goes on for as long as patience lasts, and
+/// the quickest counts: nothing is compared with it.
+pub fn stopped(name: &str, book: &[u8], effort: &Effort) -> Tries {
+    let start = Instant::now();
+    let mut nanos = f64::INFINITY;
+    while nanos.is_infinite() || start.elapsed() < effort.patience {
+        let start = Instant::now();
+        let said = finish(black_box(book), effort.limit);
+        nanos = nanos.min(start.elapsed().as_secs_f64() * 1e9);
+        assert_eq!(said, (Outcome::Stopped, effort.limit.get()), "{name}");
+    }
+    Tries {
+        book: name.into(),
+        outcome: Outcome::Stopped,
+        tries: effort.limit.get(),
+        nanos,
+    }
+}
+
 /// What came of it. A finish has its time for each try here.
-fn note(kind: Kind, book: &[u8], library: f64) -> String {
-    match kind {
-        Kind::Check => {
+fn note(kind: Kind, book: &[u8], tries: Option<&Tries>) -> String {
+    match (kind, tries) {
+        (_, Some(tries)) => format!("{}, {} a try", tries.said(), time(tries.each())),
+        (Kind::Check, _) => {
             let number = fitting::check_number(book);
             let outcome = match (number >> 16, number & 0xFFFF) {
                 (0, _) => "accepted".into(),
                 (refusal, place) => format!("refusal {refusal} place {place}"),
             };
             format!("{} bytes, {outcome}", thousands(book.len() as u64))
-        }
-        Kind::Finish => {
-            let Finish { tries, domains } = opponents::finish::<Packed>(book);
-            let found = if domains[0] != 0 { "found" } else { "none" };
-            let word = if tries == 1 { "try" } else { "tries" };
-            let each = time(library / tries.max(1) as f64);
-            format!("{found} after {} {word}, {each} a try", thousands(tries))
         }
         _ => String::new(),
     }

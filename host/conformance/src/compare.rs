@@ -1,7 +1,7 @@
 //! The library, or calls in its place, against the reference: the numbers, every byte of the space,
 //! and what lies around.
 
-use crate::spelled;
+use crate::{space_for, spelled, write, Book, Order, Seen};
 
 /// The two calls.
 #[derive(Clone, Copy, Debug)]
@@ -31,6 +31,14 @@ pub fn agreed(book: &[u8]) -> u64 {
 /// these orders over this book; they must give the same.
 pub fn agreed_run(book: &[u8], orders: &[u8], space: usize) -> (u64, Vec<u8>) {
     told(compare_run(&LIBRARY, &[FENCE], book, orders, space))
+}
+
+/// What the answers to these orders show, the opening first; the library and the reference must give the same.
+pub fn agreed_answers(book: &Book, orders: &[Order]) -> Vec<Seen> {
+    let orders = orders.concat();
+    let (number, space) = agreed_run(&write(book), &orders, space_for(&orders));
+    assert!(number < 65_536, "the run is refused");
+    Seen::read_all(&space)
 }
 
 fn told<T>(result: Result<T, String>) -> T {

@@ -5,7 +5,7 @@ use reference::{all_values, session, Kind};
 
 /// Mark.
 pub const MARK: Order = [2, 0, 0, 0, 0, 0, 0, 0];
-/// Finish.
+/// Finish, with limit 0, which is read as the largest.
 pub const FINISH: Order = [4, 0, 0, 0, 0, 0, 0, 0];
 /// An order of no kind, which is refused with 20 and changes nothing.
 pub const NO_KIND: Order = [200, 0, 0, 0, 0, 0, 0, 0];
@@ -27,6 +27,17 @@ pub fn narrow(column: u8, mask: u32) -> Order {
 /// Back to before mark m.
 pub fn back(m: u8) -> Order {
     [3, m, 0, 0, 0, 0, 0, 0]
+}
+
+/// Finish within so many tries.
+pub fn finish(limit: u32) -> Order {
+    with_limit(FINISH, limit)
+}
+
+/// The order with this limit in its bytes 4 to 7.
+pub(crate) fn with_limit(mut order: Order, limit: u32) -> Order {
+    order[4..].copy_from_slice(&limit.to_le_bytes());
+    order
 }
 
 /// Document 01's example on H: mark, narrow board 1, finish, back 1, back 1, narrow width 4.

@@ -1,7 +1,9 @@
 //! One seeded input of a run: a book, a list of orders, and a space for the answers.
 
 use crate::covers::covering;
-use crate::orders::{any_list, back, narrow, searches, FINISH, MARK};
+use crate::limits::limit_finishes;
+use crate::orders::{any_list, back, finish, narrow, searches, FINISH, MARK};
+use crate::searching::searching;
 use crate::{all_values, any_book, books, plant, space_for, write, Book, Case, Order, Random};
 use std::ops::RangeInclusive;
 
@@ -18,6 +20,8 @@ pub enum Shape {
     Differing,
     /// Sheets that allow every choice, or all but one, so that they are done with several columns open.
     Covering,
+    /// Sheets that contradict each other after some columns, so that a search takes many tries.
+    Searching,
     /// Anything that the format has.
     Any,
     /// Sixteen columns of 32 values, eight sheets of 508 rows.
@@ -44,7 +48,8 @@ impl Run {
     pub fn new(seed: u64) -> Self {
         let random = &mut Random::new(seed);
         let shape = match random.below(40) {
-            0..=9 => Shape::Tiny,
+            0..=7 => Shape::Tiny,
+            8..=9 => Shape::Searching,
             10..=19 => Shape::Small,
             20..=23 => Shape::Covering,
             24..=28 => Shape::Ring,
@@ -59,17 +64,22 @@ impl Run {
             Shape::Ring => books::ring(random),
             Shape::Differing => books::differing(random),
             Shape::Covering => covering(random),
+            Shape::Searching => searching(random),
             Shape::Any | Shape::Damaged => planted(random, any_book, 0..=8),
             Shape::Largest => planted(random, books::largest_book, 0..=8),
         };
         let length = length(random, shape);
         let mut list = any_list(random, &book, &aim, length);
-        if shape == Shape::Largest {
-            finish_late(random, &mut list, &aim);
+        match shape {
+            Shape::Largest => finish_late(random, &mut list, &aim),
+            // A list at the limit keeps its length.
+            Shape::Covering if list.len() < 25 => to_and_fro(random, &mut list, &book),
+            // Before a narrow the search is longest.
+            Shape::Searching if list.len() < 25 => list.insert(0, FINISH),
+            _ => {}
         }
-        // A list at the limit keeps its length.
-        if shape == Shape::Covering && list.len() < 25 {
-            to_and_fro(random, &mut list, &book);
+        if shape != Shape::Largest {
+            limit_finishes(random, &book, &mut list);
         }
         let orders = list_bytes(random, &list);
         let book = match shape {
@@ -112,11 +122,11 @@ fn list_bytes(random: &mut Random, list: &[Order]) -> Vec<u8> {
     orders
 }
 
-/// A search through one of the largest books may take minutes and more, so it is finished, if at
-/// all, when few columns are left open.
+/// All tries in one of the largest books may take minutes, so the search is stopped early; without such a
+/// limit it is finished, if at all, when few columns are left open.
 fn finish_late(random: &mut Random, list: &mut Vec<Order>, aim: &[u8]) {
     let finishes = list.iter_mut().filter(|order| searches(order));
-    finishes.for_each(|order| *order = narrow(0, u32::MAX));
+    finishes.for_each(|order| *order = finish(random.within(1..=3) as u32));
     if random.once_in(3) {
         let open = random.within(0..=5);
         let mut columns: Vec<u8> = (0..16).collect();

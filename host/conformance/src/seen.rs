@@ -9,10 +9,12 @@ pub struct Seen {
     pub status: u8,
     /// The number of marks.
     pub depth: u8,
-    /// 0, or for an accepted finish 1 found, 2 none.
+    /// 0, or for an accepted finish 1 found, 2 none, 3 stopped.
     pub outcome: u8,
     /// Bit s for sheet s.
     pub done: u8,
+    /// The tries that an accepted finish made, else 0.
+    pub tries: u16,
     /// What stands in the place of the sixteen domains.
     pub domains: [u32; 16],
 }
@@ -20,9 +22,14 @@ pub struct Seen {
 impl Seen {
     /// Reads an answer.
     pub fn read(answer: &[u8; 72]) -> Self {
-        let [refusal, status, depth, outcome, done, zeros @ ..] =
+        let [refusal, status, depth, outcome, done, zero, low, high] =
             *answer.first_chunk::<8>().unwrap();
-        assert_eq!(zeros, [0; 3], "bytes 5 to 7 of an answer");
+        assert_eq!(zero, 0, "byte 5 of an answer");
+        let tries = u16::from_le_bytes([low, high]);
+        assert!(
+            outcome != 0 || tries == 0,
+            "tries without an accepted finish"
+        );
         let mut domains = [0; 16];
         for (domain, &bytes) in domains.iter_mut().zip(answer[8..].as_chunks().0) {
             *domain = u32::from_le_bytes(bytes);
@@ -33,6 +40,7 @@ impl Seen {
             depth,
             outcome,
             done,
+            tries,
             domains,
         }
     }

@@ -53,15 +53,16 @@ pub fn count_steps(tally: &mut Tally, counts: &[u8], orders: &[Order], answers: 
 
 fn finish(tally: &mut Tally, before: &Seen, answer: &Seen) {
     let lowest = before.domains.map(|domain| domain & domain.wrapping_neg());
-    let (found, dead) = (answer.outcome == 1, before.is_dead());
+    let [found, none] = [1, 2].map(|outcome| answer.outcome == outcome);
+    let dead = before.is_dead();
     for (words, holds) in [
         (
             "finishes with the lowest values",
             found && answer.domains == lowest,
         ),
         ("finishes with others", found && answer.domains != lowest),
-        ("finishes without a set, alive", !found && !dead),
-        ("finishes without a set, dead", !found && dead),
+        ("finishes without a set, alive", none && !dead),
+        ("finishes without a set, dead", none && dead),
     ] {
         tally.add(words, holds.into());
     }

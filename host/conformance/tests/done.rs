@@ -1,14 +1,7 @@
 //! Done sheets: every small sheet, by trying each choice of its columns; and the largest.
 
-use conformance::{agreed_run, back, narrow, one_sheet, space_for, stairs, write};
+use conformance::{agreed_answers, back, narrow, one_sheet, stairs};
 use conformance::{Book, Order, Seen, ANY, FINISH, MARK};
-
-/// What the answers to these orders show, the opening first.
-fn seen(book: &Book, orders: &[Order]) -> Vec<Seen> {
-    let orders = orders.concat();
-    let (_, space) = agreed_run(&write(book), &orders, space_for(&orders));
-    Seen::read_all(&space)
-}
 
 /// Every way to take one number of each list; what is taken of the last changes first.
 fn one_of_each(lists: &[Vec<u8>]) -> Vec<Vec<u8>> {
@@ -61,7 +54,7 @@ impl Tried {
     fn book(&mut self, book: &Book, orders: &[Order]) {
         // A list has up to 256 orders. With three columns six belong together, and with two all fit into one list.
         for orders in orders.chunks(40 * 6) {
-            for state in Seen::states(&seen(book, orders)) {
+            for state in Seen::states(&agreed_answers(book, orders)) {
                 let done = is_done(book, &state);
                 assert_eq!(state.done, done.into(), "{book:?}: {state:?}");
                 let open = state.domains.iter().filter(|it| it.count_ones() > 1);
@@ -116,7 +109,10 @@ fn every_choice_alone_missing() {
     for counts in [&[2, 3][..], &[3, 4], &[2, 3, 2], &[2, 2, 3, 2]] {
         let values = counts.iter().map(|&count| (0..count).collect());
         let all = one_of_each(&values.collect::<Vec<_>>());
-        assert_eq!(seen(&one_sheet(counts, all.clone()), &[])[0].done, 1);
+        assert_eq!(
+            agreed_answers(&one_sheet(counts, all.clone()), &[])[0].done,
+            1
+        );
         for missing in 0..all.len() {
             let mut rows = all.clone();
             let choice = rows.remove(missing);
@@ -127,7 +123,7 @@ fn every_choice_alone_missing() {
                 let value = 1 << choice[usize::from(column)];
                 let others = ((1 << count) - 1) & !value;
                 let orders = [MARK, narrow(column, others), back(1), narrow(column, value)];
-                let shown = seen(&book, &orders);
+                let shown = agreed_answers(&book, &orders);
                 let done: Vec<bool> = shown.iter().map(|it| it.done == 1).collect();
                 // Of two columns one is left open, and what it has lost is not there to be chosen.
                 let last = counts.len() == 2;
@@ -143,7 +139,7 @@ fn every_choice_alone_missing() {
 fn every_row_of_a_sheet_counts() {
     let choice = |n: usize| vec![(n / 16) as u8, (n % 16) as u8];
     let all_but_last: Vec<_> = (0..508).map(|n| choice(n % 255)).collect();
-    let done = |rows| seen(&one_sheet(&[16, 16], rows), &[])[0].done == 1;
+    let done = |rows| agreed_answers(&one_sheet(&[16, 16], rows), &[])[0].done == 1;
     assert!(!done(all_but_last.clone()));
     for r in 0..508 {
         let mut rows = all_but_last.clone();
@@ -163,7 +159,7 @@ fn the_largest_sheet() {
     }
     let orders = [MARK, narrow(3, u32::MAX >> 1), back(1), narrow(0, 1 << 31)];
     let done = |rows: &[Vec<u8>]| {
-        let shown = seen(&one_sheet(&[32; 4], rows.to_vec()), &orders);
+        let shown = agreed_answers(&one_sheet(&[32; 4], rows.to_vec()), &orders);
         shown.iter().map(|it| it.done).collect::<Vec<_>>()
     };
     assert_eq!(done(&rows), [0, 0, 1, 0, 0]);

@@ -1,8 +1,8 @@
 //! The edges of the orders, each with what it must give, and whole ranges of them.
 
 use conformance::{
-    agreed_run, all_values, back, harbour, kit, narrow, plant, regular, space_for, write, Book,
-    Order, Random, Seen, Sheet, FINISH, MARK, MOTOR, WIDTH,
+    agreed_run, all_values, back, finish, harbour, kit, narrow, plant, regular, space_for, write,
+    Book, Order, Random, Seen, Sheet, FINISH, MARK, MOTOR, WIDTH,
 };
 
 /// What the last answer shows: its refusal, the depth and the domains.
@@ -72,7 +72,8 @@ fn every_byte_that_must_be_zero() {
         (MARK, 1..=7),
         (back(1), 2..=7),
         (back(9), 2..=7),
-        (FINISH, 1..=7),
+        (FINISH, 1..=3),
+        (finish(65_536), 1..=3),
     ];
     for (right, bytes) in zeros {
         for byte in bytes {

@@ -159,7 +159,7 @@ fn every_twin_agrees() {
             tally.add("runs refused alike", 1);
         } else {
             let answers = Seen::read_all(&space[..space_for(&run.orders)]);
-            for (words, outcome) in [("found", 1), ("none", 2)] {
+            for (words, outcome) in [("found", 1), ("none", 2), ("stopped", 3)] {
                 let finishes = answers.iter().filter(|seen| seen.outcome == outcome);
                 tally.add(&format!("finishes, {words}"), finishes.count());
             }

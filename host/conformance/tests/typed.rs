@@ -29,8 +29,10 @@ fn seen(answer: Answer) -> Seen {
             None => 0,
             Some(Outcome::Found) => 1,
             Some(Outcome::None) => 2,
+            Some(Outcome::Stopped) => 3,
         },
         done: answer.done(),
+        tries: answer.tries().unwrap_or(0),
         domains,
     }
 }

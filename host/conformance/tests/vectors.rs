@@ -3,7 +3,7 @@
 
 use conformance::kit::{self, contents, read_contents, Files};
 use conformance::wrong::{WrongEngine, FAULTS};
-use conformance::{write, Folder};
+use conformance::{write, Folder, Seen};
 use std::collections::BTreeSet;
 use std::fs;
 use std::path::Path;
@@ -89,9 +89,10 @@ fn the_library_and_the_program_agree_with_each() {
 /// 15 tuples are left, and none has 3 for x0; then x1 loses 1 and 2, 4 tuples are left, and x2 loses 3 and 4.
 /// With "any board" for motor 0 the harbour book prints document 01's run too. Of rows 0 any and 1 3, the short
 /// one goes with value 0; and any brings no value back that another sheet has struck. A sheet of all four of 2 motors
-/// by 2 boards is done; one of nine pairs but 0 0 is so while one of its columns lacks value 0.
+/// by 2 boards is done; one of nine pairs but 0 0 is so while one of its columns lacks value 0. H's set takes two tries
+/// at the opening, K7's none takes two: a limit of 1 stops both.
 #[rustfmt::skip]
-const EXAMPLES: [(&str, &[&str]); 18] = [
+const EXAMPLES: [(&str, &[&str]); 20] = [
     ("k1-opening", &["0 0 1 0 0 0 7 3 3", "accepted 0"]),
     ("k2-width-4", &["0 0 1 0 0 0 7 3 3", "1 0 2 0 3 0 4 2 2", "accepted 1"]),
     ("k3-board-1", &["0 0 1 0 0 0 7 3 3", "1 0 1 0 3 0 3 1 1", "accepted 1"]),
@@ -136,6 +137,14 @@ const EXAMPLES: [(&str, &[&str]); 18] = [
         "10 0 1 1 1 0 5 6", "11 0 1 0 0 0 7 7", "12 0 1 0 0 0 7 5", "13 0 1 0 0 0 5 5", "14 0 1 0 1 0 4 5",
         "accepted 14",
     ]),
+    ("tries-of-harbour", &[
+        "0 0 1 0 0 0 7 3 3", "1 0 1 0 0 3 0 0 0", "2 0 1 0 0 1 1 1 1", "3 0 1 0 0 1 1 1 1", "4 0 1 0 0 1 1 1 1",
+        "5 0 1 0 0 1 1 1 1", "accepted 5",
+    ]),
+    ("tries-that-end-dead", &[
+        "0 0 1 0 0 0 3 3 3", "1 0 1 0 0 3 0 0 0", "2 0 1 0 0 2 0 0 0", "3 0 1 0 0 2 0 0 0", "4 0 1 0 0 2 0 0 0",
+        "accepted 4",
+    ]),
 ];
 
 #[test]
@@ -149,8 +158,39 @@ fn the_papers_examples() {
     }
 }
 
+/// The tries of every answer, which no line prints, by hand. Of four columns of three values that differ in pairs, each
+/// value of the first leaves two of the second, and both end dead: three tries, three times. Seven columns of two values
+/// before K7's three: each doubles the tries after it, and adds two.
+#[rustfmt::skip]
+const TRIES: [(&str, &[u16]); 14] = [
+    ("paper-run", &[0, 0, 0, 1, 0, 0, 0]),
+    ("k6-finish", &[0, 2]),
+    ("k7-three-that-differ", &[0, 2]),
+    ("k8-sheet-without-rows", &[0, 0]),
+    ("k9-no-sheets", &[0, 3]),
+    ("finish-when-decided", &[0, 0, 0, 0]),
+    ("tries-of-harbour", &[0, 1, 2, 2, 2, 2]),
+    ("tries-that-end-dead", &[0, 1, 2, 2, 2]),
+    ("tries-to-the-last-value", &[0, 3, 4, 4, 4]),
+    ("tries-of-single-columns", &[0, 15, 16, 16, 0, 14, 15, 0, 0, 12, 13]),
+    ("tries-of-256-and-more", &[0, 255, 256, 257, 509, 510, 510, 510]),
+    ("limit-65535-enough", &[0, 65_535, 65_535]),
+    ("limit-too-large", &[0, 2, 0, 0, 0, 0, 0, 2]),
+    ("limits-that-rise", &[0, 1, 2, 3, 4, 5, 6, 7, 8, 9, 9, 9]),
+];
+
+#[test]
+fn the_tries_of_the_examples() {
+    for (name, expected) in TRIES {
+        let space = fs::read(kit::folder().join(format!("answers/{name}.bin"))).expect(name);
+        let answers = space.as_chunks().0.iter().take(expected.len());
+        let tries: Vec<u16> = answers.map(|answer| Seen::read(answer).tries).collect();
+        assert_eq!(tries, expected, "{name}");
+    }
+}
+
 /// Every wrong engine can be made, and the file of faults has a line for each and no other. What
-/// the lines say is tried by `--bin wrong_engines -- --check`, which takes a minute.
+/// the lines say is tried by `--bin wrong_engines -- --check`, which takes some minutes.
 #[test]
 fn every_wrong_engine_has_its_line() {
     let (faults, engines) = (read(FAULTS), WrongEngine::all());

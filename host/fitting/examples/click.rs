@@ -7,19 +7,27 @@
 //! The query is the buyer's list: narrow=COLUMN:VALUE,VALUE or mark or back=MARK or finish, in turn.
 //! The answer is JSON: the values left in each column, or, after a finish, those of the full set. A
 //! refused order has status 422, and the body says which and why. The first line printed is the address.
+//!
+//! A finish that is "stopped" isn't decided yet: it took as many tries as a page waits for. The page says
+//! so, and asks again with a larger limit, finish=TRIES, if the buyer wants to wait.
 
 use fitting::{Book, Order, OrderList, Refusal, Space, Values};
 use std::io::{self, BufRead, BufReader, Read, Write};
 use std::net::{TcpListener, TcpStream};
+use std::num::NonZeroU16;
 use std::time::Duration;
 use std::{env, error::Error, fmt::Display, fs, thread};
 
 const THREADS: usize = 4;
 const LONGEST_HEAD: u64 = 65_536;
 
+/// The tries of a finish that names no limit: so few that the page is in time on a hard book too.
+const USUAL_TRIES: NonZeroU16 = NonZeroU16::new(2_000).unwrap();
+
 const WRONG: &str = "400 Bad Request";
 const REFUSED: &str = "422 Unprocessable Content";
-const ORDERS: &str = "an order is narrow=COLUMN:VALUE,VALUE or mark or back=MARK or finish";
+const ORDERS: &str =
+    "an order is narrow=COLUMN:VALUE,VALUE or mark or back=MARK or finish or finish=TRIES, 1 to 65535";
 
 /// A status and a body.
 type Reply = (&'static str, String);
@@ -93,6 +101,7 @@ fn fill(list: &mut OrderList, line: &str) -> Result<(), Reply> {
 
 fn order(word: &str) -> Result<Order, Reply> {
     let number = |text: &str| text.parse().map_err(|_| wrong(WRONG, ORDERS));
+    let finish = |limit| Order::FinishWithin { limit };
     Ok(match word.split_once('=').unwrap_or((word, "")) {
         ("narrow", argument) => {
             let (column, values) = argument.split_once(':').unwrap_or((argument, ""));
@@ -105,7 +114,8 @@ fn order(word: &str) -> Result<Order, Reply> {
             mark: number(mark)?,
         },
         ("mark", "") => Order::Mark,
-        ("finish", "") => Order::Finish,
+        ("finish", "") => finish(USUAL_TRIES),
+        ("finish", limit) => finish(limit.parse().map_err(|_| wrong(WRONG, ORDERS))?),
         _ => return Err(wrong(WRONG, ORDERS)),
     })
 }

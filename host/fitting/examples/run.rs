@@ -9,7 +9,10 @@ use std::{env, error::Error, fs};
 fn main() -> ExitCode {
     let mut words = env::args().skip(1);
     let (Some(file), Some(orders)) = (words.next(), orders(words)) else {
-        eprintln!("name a book file, then orders: narrow COLUMN MASK, mark, back MARK, finish");
+        eprintln!(
+            "name a book file, then orders: narrow COLUMN MASK, mark, back MARK, finish, \
+             finish-within TRIES"
+        );
         return ExitCode::from(2);
     };
     match lines(&file, orders) {
@@ -38,6 +41,9 @@ fn orders(mut words: impl Iterator<Item = String>) -> Option<Vec<Order>> {
                 mark: u8::try_from(number()?).ok()?,
             },
             "finish" => Order::Finish,
+            "finish-within" => Order::FinishWithin {
+                limit: u16::try_from(number()?).ok()?.try_into().ok()?,
+            },
             _ => return None,
         });
     }
@@ -55,6 +61,9 @@ fn lines(file: &str, orders: Vec<Order>) -> Result<String, Box<dyn Error>> {
             (Some(refusal), _) => refusal.to_string(),
             (None, Some(Outcome::Found)) => "found".to_string(),
             (None, Some(Outcome::None)) => "no full set".to_string(),
+            (None, Some(Outcome::Stopped)) => {
+                format!("not decided within {} tries", answer.tries().unwrap_or(0))
+            }
             (None, None) => format!("{}, depth {}", answer.status(), answer.depth()),
         };
         let domains = answer.domains().map(|left| format!("{:b}", left.mask()));

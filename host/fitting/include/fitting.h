@@ -35,19 +35,26 @@ uint64_t fitting_check(const uint8_t *book, size_t book_len);
  * An order, at most FITTING_MOST_ORDERS of them:
  *
  *      byte 0   byte 1     2, 3   4 to 7
- *     +-------+----------+------+-----------------+
- *     | kind  | argument | zero | mask, low first |     1 narrow: column, mask of the values that may
- *     +-------+----------+------+-----------------+       stay; 2 mark; 3 back: mark; 4 finish
+ *     +-------+----------+------+--------------------------+     1 narrow: column, mask of the values that
+ *     | kind  | argument | zero | mask or limit, low first |       may stay; 2 mark; 3 back: mark; 4 finish:
+ *     +-------+----------+------+--------------------------+       zero, limit of its tries
  *
  * An answer; the first is the opening, then comes one for each order:
  *
- *      byte 0    1        2       3        4      5 to 7   8 to 71
- *     +---------+--------+-------+--------+------+--------+------------------------------+
- *     | refusal | status | depth | finish | done |  zero  | 16 domains of 4, low first   |
- *     +---------+--------+-------+--------+------+--------+------------------------------+
+ *      byte 0    1        2       3        4      5      6, 7               8 to 71
+ *     +---------+--------+-------+--------+------+------+------------------+----------------------------+
+ *     | refusal | status | depth | finish | done | zero | tries, low first | 16 domains of 4, low first |
+ *     +---------+--------+-------+--------+------+------+------------------+----------------------------+
  *
- * The refusal is 0 or 20 to 25; the status 0 dead, 1 open, 2 decided; the finish 0, or 1 found, 2 none.
- * Bit v of a domain is set where value v is left.
+ * The refusal is 0, 20 to 25 or 27; the status 0 dead, 1 open, 2 decided; the finish 0, or 1 found, 2 none,
+ * 3 stopped. Bit v of a domain is set where value v is left.
+ *
+ * The limit of a finish is 1 to FITTING_MOST_TRIES; 0 is read as FITTING_MOST_TRIES, and a larger one is
+ * refused with 27. A try sets one value on the lowest column that has several, and settles. A finish is
+ * stopped exactly when it needs more tries than its limit: there may be a full set, or none, so never show it
+ * as none. Ask again with a larger limit, which never changes found or none, nor the full set. Bytes 6 and 7
+ * have the tries made, when stopped the limit; they are zero in every answer that isn't an accepted finish's.
+ * The domains after a finish are the full set, or zeros for none and for stopped.
  *
  * Bit s of done is set where sheet s is done: the status isn't 0, and the sheet allows every choice of one
  * value left in each of its columns. A page may then hide the sheet's questions, also where several of its
@@ -67,9 +74,18 @@ uint64_t fitting_run(const uint8_t *book, size_t book_len, const uint8_t *orders
 /* The bytes that the answers to so many orders need. */
 #define FITTING_SPACE(orders) (72 * ((size_t)(orders) + 1))
 
-/* The most orders of a list, and the bytes of the longest book. */
+/* What byte 3 says of an accepted finish. */
+#define FITTING_FOUND 1
+#define FITTING_NONE 2
+#define FITTING_STOPPED 3
+
+/* The tries in an answer's 72 bytes. */
+#define FITTING_TRIES(answer) ((answer)[6] + 256 * (answer)[7])
+
+/* The most orders of a list, the bytes of the longest book, and the largest limit of a finish. */
 #define FITTING_MOST_ORDERS 256
 #define FITTING_LONGEST_BOOK 16896
+#define FITTING_MOST_TRIES 65535
 
 #ifdef __cplusplus
 }

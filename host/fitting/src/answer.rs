@@ -7,6 +7,7 @@ use core::slice;
 
 /// The bytes of an answer.
 pub(crate) const ANSWER: usize = 72;
+const TRIES: usize = 6;
 const DOMAINS: usize = 8;
 const DOMAIN: usize = 4;
 
@@ -180,8 +181,32 @@ impl<'a> Answer<'a> {
         match self.bytes[3] {
             0 => None,
             1 => Some(Outcome::Found),
-            _ => Some(Outcome::None),
+            2 => Some(Outcome::None),
+            _ => Some(Outcome::Stopped),
         }
+    }
+
+    /// How many tries an accepted finish has made; `None` after anything else. Where it was stopped they are
+    /// its limit.
+    ///
+    /// ```
+    /// # let bytes = conformance::write(&conformance::harbour());
+    /// # let book = fitting::check(&bytes)?;
+    /// # let mut space = fitting::Space::new();
+    /// use fitting::{OrderList, Outcome};
+    ///
+    /// let mut list = OrderList::new();
+    /// list.finish_within(1_u16.try_into()?)?.finish_within(2_u16.try_into()?)?;
+    /// let answers = book.run(&list, &mut space);
+    /// let said = |number| answers.get(number).map(|it| (it.outcome(), it.tries()));
+    /// assert_eq!(said(0), Some((None, None))); // the opening is no finish
+    /// assert_eq!(said(1), Some((Some(Outcome::Stopped), Some(1))));
+    /// assert_eq!(said(2), Some((Some(Outcome::Found), Some(2))));
+    /// # Ok::<(), Box<dyn std::error::Error>>(())
+    /// ```
+    pub fn tries(&self) -> Option<u16> {
+        let [low, high] = [self.bytes[TRIES], self.bytes[TRIES + 1]];
+        self.outcome().map(|_| u16::from_le_bytes([low, high]))
     }
 
     /// The sheets that are done, bit s for sheet s; [`is_done`](Self::is_done) says when.
@@ -213,7 +238,8 @@ impl<'a> Answer<'a> {
 
     /// The values left in each column.
     ///
-    /// After an accepted finish the full set is here, one value for each column, or nothing for none.
+    /// After an accepted finish the full set is here, one value for each column, or nothing where it found
+    /// none or was stopped. What is left then is what the answer to the last order that was no finish shows.
     pub fn domains(
         &self,
     ) -> impl ExactSizeIterator<Item = Values> + DoubleEndedIterator + Clone + 'a {
@@ -244,6 +270,7 @@ impl fmt::Debug for Answer<'_> {
             .field("status", &self.status())
             .field("depth", &self.depth())
             .field("outcome", &self.outcome())
+            .field("tries", &self.tries())
             .field("done", &self.done())
             .field("domains", &domains)
             .finish()
@@ -271,13 +298,16 @@ impl fmt::Display for Status {
     }
 }
 
-/// What an accepted finish says. It shows itself in the words found and none.
+/// What an accepted finish says. It shows itself in the words found, none and stopped.
 #[derive(Clone, Copy, Debug, PartialEq, Eq, Hash)]
 pub enum Outcome {
     /// There is a full set, and the answer has the first in the place of the domains.
     Found,
     /// There is none.
     None,
+    /// It takes more tries than the limit to tell: there may be one, or none. The same finish with a larger
+    /// limit may tell.
+    Stopped,
 }
 
 impl fmt::Display for Outcome {
@@ -285,6 +315,7 @@ impl fmt::Display for Outcome {
         f.pad(match self {
             Self::Found => "found",
             Self::None => "none",
+            Self::Stopped => "stopped",
         })
     }
 }

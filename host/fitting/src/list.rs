@@ -5,6 +5,7 @@ use core::error::Error;
 use core::fmt;
 use core::hash::{Hash, Hasher};
 use core::iter::Map;
+use core::num::NonZeroU16;
 use core::slice;
 
 /// The orders of a list in turn, made by [`OrderList::iter`].
@@ -102,6 +103,11 @@ impl OrderList {
     /// Adds a finish.
     pub fn finish(&mut self) -> Result<&mut Self, Full> {
         self.push(Order::Finish)
+    }
+
+    /// Adds a finish that makes so many tries at most.
+    pub fn finish_within(&mut self, limit: NonZeroU16) -> Result<&mut Self, Full> {
+        self.push(Order::FinishWithin { limit })
     }
 
     /// Takes the last order away.

@@ -3,6 +3,7 @@
 use crate::Values;
 use core::error::Error;
 use core::fmt;
+use core::num::NonZeroU16;
 
 /// One order of a list. Columns count from 0, marks from 1.
 ///
@@ -13,7 +14,11 @@ use core::fmt;
 /// assert_eq!(order.bytes(), [1, 2, 0, 0, 5, 0, 0, 0]);
 /// assert_eq!(Order::from(order.bytes()), order);
 /// assert_eq!(Order::from([9; 8]), Order::Raw([9; 8]));
-/// # Ok::<(), fitting::OrderRefusal>(())
+///
+/// // A finish for a page that can wait for 1,000 tries.
+/// let limit = 1_000_u16.try_into()?;
+/// assert_eq!(Order::FinishWithin { limit }.bytes(), [4, 0, 0, 0, 232, 3, 0, 0]);
+/// # Ok::<(), Box<dyn std::error::Error>>(())
 /// ```
 #[derive(Clone, Copy, Debug, PartialEq, Eq, Hash)]
 pub enum Order {
@@ -31,13 +36,24 @@ pub enum Order {
         /// The mark.
         mark: u8,
     },
-    /// Looks for the first full set, and changes nothing.
+    /// Looks for the first full set, and changes nothing. It makes [`MOST_TRIES`](Self::MOST_TRIES) tries at most.
     Finish,
+    /// Looks for the first full set as long as it takes no more tries than this, and changes nothing.
+    ///
+    /// A try sets one value on the lowest column that has several, and settles. A larger limit never changes
+    /// a full set that was found, nor that there is none.
+    FinishWithin {
+        /// The most tries that are made.
+        limit: NonZeroU16,
+    },
     /// Eight bytes as they come. Where they are one of the others, they read back as that one.
     Raw([u8; 8]),
 }
 
 impl Order {
+    /// The largest limit of a finish, and that of one that names none.
+    pub const MOST_TRIES: NonZeroU16 = NonZeroU16::MAX;
+
     /// The order as the library reads it.
     pub const fn bytes(self) -> [u8; 8] {
         match self {
@@ -48,6 +64,10 @@ impl Order {
             Self::Mark => [2, 0, 0, 0, 0, 0, 0, 0],
             Self::Back { mark } => [3, mark, 0, 0, 0, 0, 0, 0],
             Self::Finish => [4, 0, 0, 0, 0, 0, 0, 0],
+            Self::FinishWithin { limit } => {
+                let [low, high] = limit.get().to_le_bytes();
+                [4, 0, 0, 0, low, high, 0, 0]
+            }
             Self::Raw(bytes) => bytes,
         }
     }
@@ -62,7 +82,11 @@ impl From<[u8; 8]> for Order {
             },
             [2, 0, 0, 0, 0, 0, 0, 0] => Self::Mark,
             [3, mark, 0, 0, 0, 0, 0, 0] => Self::Back { mark },
-            [4, 0, 0, 0, 0, 0, 0, 0] => Self::Finish,
+            [4, 0, 0, 0, low, high, 0, 0] => match NonZeroU16::new(u16::from_le_bytes([low, high]))
+            {
+                Some(limit) => Self::FinishWithin { limit },
+                None => Self::Finish,
+            },
             raw => Self::Raw(raw),
         }
     }
@@ -93,6 +117,8 @@ pub enum OrderRefusal {
     Mark,
     /// 25: a byte that must be zero isn't.
     Zero,
+    /// 27: the limit of a finish is larger than [`Order::MOST_TRIES`].
+    Limit,
     /// A refusal that has no name here. A run never gives one.
     Other {
         /// The refusal number.
@@ -111,11 +137,12 @@ impl OrderRefusal {
             23 => Some(Self::Depth),
             24 => Some(Self::Mark),
             25 => Some(Self::Zero),
+            27 => Some(Self::Limit),
             number => Some(Self::Other { number }),
         }
     }
 
-    /// The refusal number, 20 to 25.
+    /// The refusal number, 20 to 25 or 27.
     pub const fn number(&self) -> u8 {
         self.number_and_cause().0
     }
@@ -128,6 +155,7 @@ impl OrderRefusal {
             Self::Depth => (23, "there are 16 marks already"),
             Self::Mark => (24, "there is no such mark"),
             Self::Zero => (25, "a byte that must be zero isn't"),
+            Self::Limit => (27, "the limit of a finish is larger than 65,535"),
             Self::Other { number } => (number, "the order is refused"),
         }
     }

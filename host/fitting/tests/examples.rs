@@ -1,4 +1,4 @@
-//! The examples, run as the documents say. The one in C is compiled first, with the header; the one that
+//! The examples, run as the documents say. Those in C are compiled first, with the header; the one that
 //! serves clicks is started and asked.
 
 use conformance::{changed, harbour};
@@ -81,9 +81,22 @@ fn runs() {
                  7: dead, depth 0: 0 0 0\n\
                  8: no full set: 0 0 0\n";
     says(&run, orders, lines, 0);
+    let limits = "harbour.bin finish-within 1 finish-within 2 finish-within 65535";
+    let lines = "0: open, depth 0: 111 11 11\n\
+                 1: not decided within 1 tries: 0 0 0\n\
+                 2: found: 1 1 1\n\
+                 3: found: 1 1 1\n";
+    says(&run, limits, lines, 0);
     says(&run, "../README.md", LENGTH, 1);
     says(&run, "nowhere.bin mark", NOWHERE, 1);
-    for wrong in ["", "harbour.bin narrow 2", "harbour.bin go"] {
+    for wrong in [
+        "",
+        "harbour.bin narrow 2",
+        "harbour.bin go",
+        "harbour.bin finish-within",
+        "harbour.bin finish-within 0",
+        "harbour.bin finish-within 65536",
+    ] {
         says(&run, wrong, "", 2);
     }
 }
@@ -102,13 +115,20 @@ fn compile(compiler: &[&str], words: &[&str]) {
     assert!(output.status.success(), "{command:?}\n{errors}");
 }
 
-/// The example, compiled in this language and linked with the library.
-fn left(compiler: &[&str]) {
-    let left = &Path::new(env!("CARGO_TARGET_TMPDIR")).join(format!("left-{}", compiler[0]));
-    let to = left.to_str().expect("a folder with a name in letters");
+/// The example of this name, compiled in this language and linked with the library.
+fn compiled(name: &str, compiler: &[&str]) -> PathBuf {
+    let folder = Path::new(env!("CARGO_TARGET_TMPDIR"));
+    let program = folder.join(format!("{name}-{}", compiler[0]));
+    let to = program.to_str().expect("a folder with a name in letters");
+    let from = format!("examples/{name}.c");
     let library = env!("FITTING_LIBRARY");
-    let words = ["examples/left.c", "-x", "none", library, "-o", to];
-    compile(compiler, &words);
+    compile(compiler, &[&from, "-x", "none", library, "-o", to]);
+    program
+}
+
+/// The example that prints what is left.
+fn left(compiler: &[&str]) {
+    let left = &compiled("left", compiler);
     let opening = "column 0: 0 1 2\ncolumn 1: 0 1\ncolumn 2: 0 1\n";
     let board = "column 0: 0 1\ncolumn 1: 0\ncolumn 2: 0\n";
     let dead = "column 0:\ncolumn 1:\ncolumn 2:\n";
@@ -123,18 +143,34 @@ fn left(compiler: &[&str]) {
     }
 }
 
+/// The example that prints the first full set.
+fn first(compiler: &[&str]) {
+    let first = &compiled("first", compiler);
+    let found = "column 0: 0\ncolumn 1: 0\ncolumn 2: 0\n";
+    says(first, "harbour.bin 1", "not decided yet, tries: 1\n", 3);
+    says(first, "harbour.bin 2", found, 0);
+    says(first, "harbour.bin 65535", found, 0);
+    says(first, "harbour.bin 65536", "refusal 27\n", 1);
+    says(first, "../README.md 1", "refusal 1, place 0\n", 1);
+    for wrong in ["", "nowhere.bin 1", "harbour.bin", "harbour.bin 0"] {
+        says(first, wrong, "", 2);
+    }
+}
+
 /// The header alone too, as the first thing that a program includes.
 #[test]
-fn left_in_c() {
+fn examples_in_c() {
     left(&C);
+    first(&C);
     compile(&C, &["-fsyntax-only", "-x", "c", "include/fitting.h"]);
 }
 
-/// The same program as C++: it links, so the header gives the names of C.
+/// The same programs as C++: they link, so the header gives the names of C.
 #[test]
-fn left_in_cpp() {
+fn examples_in_cpp() {
     if Command::new(CPP[0]).arg("--version").output().is_ok() {
         left(&CPP);
+        first(&CPP);
     } else {
         conformance::show("no c++ here: the header is not tried");
     }
@@ -200,6 +236,7 @@ fn clicks() {
     let wide = r#"{"status":"decided","finish":null,"left":[[2], [1], [1]]}"#;
     let found = r#"{"status":"open","finish":"found","left":[[0], [0], [0]]}"#;
     let none = r#"{"status":"dead","finish":"none","left":[[], [], []]}"#;
+    let stopped = r#"{"status":"open","finish":"stopped","left":[[], [], []]}"#;
     let longest = format!("/?{}", "narrow=1:0,1&".repeat(256));
     for (target, body) in [
         ("/", OPENING),
@@ -210,6 +247,9 @@ fn clicks() {
         ("/?mark&narrow=2:0&back=1", OPENING),
         ("/?narrow=0:2", wide),
         ("/?narrow=2:0,1&finish", found),
+        ("/?narrow=2:0,1&finish=1", stopped),
+        ("/?narrow=2:0,1&finish=2", found),
+        ("/?narrow=2:0,1&finish=65535", found),
         ("/?narrow=2:0&narrow=0:2&finish", none),
         (&longest, OPENING),
     ] {
@@ -238,9 +278,11 @@ fn clicks_that_are_refused() {
 #[test]
 fn clicks_that_cannot_be_read() {
     let host = Host::start();
-    let orders = "an order is narrow=COLUMN:VALUE,VALUE or mark or back=MARK or finish";
+    let orders = "an order is narrow=COLUMN:VALUE,VALUE or mark or back=MARK or finish or \
+                  finish=TRIES, 1 to 65535";
     let wrong = "go narrow narrow= narrow=2 narrow=2: narrow=:1 narrow=2:0, narrow=256:0 \
-                 narrow=2:256 narrow=2:-1 mark=1 back back=x finish=1 narrow=2:0&%FF =";
+                 narrow=2:256 narrow=2:-1 mark=1 back back=x finish=x finish=0 finish=65536 \
+                 narrow=2:0&%FF =";
     for query in wrong.split_whitespace() {
         host.fails(&format!("/?{query}"), "400 Bad Request", orders);
     }

@@ -2,6 +2,7 @@
 
 use fitting::{Full, Order, OrderList, OrderRefusal, Refusal, Values};
 use std::collections::HashSet;
+use std::num::NonZeroU16;
 
 #[test]
 fn a_set_is_its_mask() {
@@ -34,6 +35,7 @@ fn a_set_is_taken_from_both_ends() {
 #[test]
 fn orders_have_their_bytes_and_read_back() {
     let values = Values::from_mask(0x8421_0001);
+    let limit = NonZeroU16::new(0x0102).unwrap();
     for (order, bytes, free) in [
         (
             Order::Narrow { column: 15, values },
@@ -42,11 +44,16 @@ fn orders_have_their_bytes_and_read_back() {
         ),
         (Order::Mark, [2, 0, 0, 0, 0, 0, 0, 0], 0),
         (Order::Back { mark: 16 }, [3, 16, 0, 0, 0, 0, 0, 0], 0b10),
-        (Order::Finish, [4, 0, 0, 0, 0, 0, 0, 0], 0),
+        (Order::Finish, [4, 0, 0, 0, 0, 0, 0, 0], 0b11_0000),
+        (
+            Order::FinishWithin { limit },
+            [4, 0, 0, 0, 2, 1, 0, 0],
+            0b11_0000,
+        ),
     ] {
         assert_eq!(order.bytes(), bytes);
         assert_eq!(Order::from(bytes), order);
-        // Where another byte than the free ones is changed, it is one of the four no longer.
+        // Where another byte than the free ones is changed, it is one of these no longer.
         for at in 0..8 {
             let mut changed = bytes;
             changed[at] ^= 0x80;
@@ -57,17 +64,43 @@ fn orders_have_their_bytes_and_read_back() {
     }
 }
 
+/// "Bytes 4 to 7 of a finish become a limit from 1 to 65,535; 0 is read as 65,535": 0 is the finish that names
+/// none, and a larger one is none of the orders.
+#[test]
+fn every_limit_reads_back() {
+    for (number, bytes) in (0..=65_536_u32).map(|limit| (limit, limit.to_le_bytes())) {
+        let [a, b, c, d] = bytes;
+        let bytes = [4, 0, 0, 0, a, b, c, d];
+        let limit = u16::try_from(number).map(NonZeroU16::new);
+        let order = match limit {
+            Ok(Some(limit)) => Order::FinishWithin { limit },
+            Ok(None) => Order::Finish,
+            Err(_) => Order::Raw(bytes),
+        };
+        assert_eq!((Order::from(bytes), order.bytes()), (order, bytes));
+    }
+    assert_eq!(Order::MOST_TRIES.get(), 65_535);
+}
+
 #[test]
 fn a_list_is_its_orders() -> Result<(), Full> {
     let values = Values::from_mask(5);
-    let narrow = Order::Narrow { column: 2, values };
-    let orders = [narrow, Order::Mark, Order::Back { mark: 7 }, Order::Finish];
+    let limit = Order::MOST_TRIES;
+    let orders = [
+        Order::Narrow { column: 2, values },
+        Order::Mark,
+        Order::Back { mark: 7 },
+        Order::Finish,
+        Order::FinishWithin { limit },
+    ];
     let mut list = OrderList::new();
     list.narrow(2, values)?.mark()?.back(7)?.finish()?;
+    list.finish_within(limit)?;
     assert_eq!(list, OrderList::of(orders)?);
     assert!(list.iter().rev().eq(orders.into_iter().rev()));
-    assert_eq!(list.iter().len(), 4);
-    let shown = "[Narrow { column: 2, values: {0, 2} }, Mark, Back { mark: 7 }, Finish]";
+    assert_eq!(list.iter().len(), 5);
+    let shown = "[Narrow { column: 2, values: {0, 2} }, Mark, Back { mark: 7 }, Finish, \
+                 FinishWithin { limit: 65535 }]";
     assert_eq!(format!("{list:?}"), shown);
     Ok(())
 }
@@ -97,6 +130,7 @@ fn a_full_list_stays_as_it_was() {
     assert!(list.push(Order::Mark).is_err_and(|full| full == Full));
     assert!(list.narrow(0, Values::NONE).is_err());
     assert!(list.mark().is_err() && list.back(1).is_err() && list.finish().is_err());
+    assert!(list.finish_within(Order::MOST_TRIES).is_err());
     assert_eq!(list, before);
     assert_eq!(OrderList::of(orders.chain([Order::Mark])), Err(Full));
 }

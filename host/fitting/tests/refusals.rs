@@ -83,18 +83,22 @@ fn any_number_with_any_bytes() {
 fn every_refusal_of_an_order_has_its_name_and_its_sentence() {
     use OrderRefusal::*;
     let named = [
-        (Kind, "there is no such kind of order"),
-        (Column, "the book has no such column"),
-        (Mask, "the mask has a value that the column doesn't have"),
-        (Depth, "there are 16 marks already"),
-        (Mark, "there is no such mark"),
-        (Zero, "a byte that must be zero isn't"),
+        (20, Kind, "there is no such kind of order"),
+        (21, Column, "the book has no such column"),
+        (
+            22,
+            Mask,
+            "the mask has a value that the column doesn't have",
+        ),
+        (23, Depth, "there are 16 marks already"),
+        (24, Mark, "there is no such mark"),
+        (25, Zero, "a byte that must be zero isn't"),
+        (27, Limit, "the limit of a finish is larger than 65,535"),
     ];
     for number in 1..=255 {
-        let (refusal, sentence) = match number {
-            20..=25 => named[usize::from(number) - 20],
-            _ => (Other { number }, "the order is refused"),
-        };
+        let unnamed = (number, Other { number }, "the order is refused");
+        let mut named = named.into_iter();
+        let (_, refusal, sentence) = named.find(|it| it.0 == number).unwrap_or(unnamed);
         assert_eq!(OrderRefusal::from_number(number), Some(refusal));
         assert_eq!(refusal.number(), number);
         assert_eq!(refusal.to_string(), format!("refusal {number}: {sentence}"));

@@ -1,8 +1,11 @@
 //! The typed run: a list in, answers out. That the answers say what the bytes say is compared by
 //! `conformance/tests/typed.rs`, on seeded runs.
 
-use conformance::{harbour, tiny, write, WIDTH};
-use fitting::{check, run, space_for, Order, OrderList, Refusal, Space, Values};
+use conformance::{harbour, tiny, write, Book, Sheet, WIDTH};
+use fitting::{
+    check, run, space_for, Answer, Order, OrderList, OrderRefusal, Outcome, Refusal, Space, Values,
+};
+use std::num::NonZeroU16;
 
 /// The answers are the space itself, by every way to them, and what is not there is not found.
 #[test]
@@ -58,11 +61,92 @@ fn answers_show_themselves() -> Result<(), Refusal> {
     let answers = check(&bytes)?.run(&list, &mut space);
     let [opening, last] = ["None", "Some(Mask)"].map(|refusal| {
         format!(
-            "Answer {{ refusal: {refusal}, status: Open, depth: 0, outcome: None, done: 0, \
+            "Answer {{ refusal: {refusal}, status: Open, depth: 0, outcome: None, tries: None, done: 0, \
              domains: [{{0, 1, 2}}, {{0, 1}}, {{0, 1}}] }}"
         )
     });
     assert_eq!(format!("{answers:?}"), format!("[{opening}, {last}]"));
     assert_eq!(format!("{space:?}"), "Space { .. }");
+    Ok(())
+}
+
+/// What a finish says: its outcome, its tries and its full set.
+type Said = (Option<Outcome>, Option<u16>, Option<Vec<u8>>);
+
+/// Runs a finish with each of these limits at the opening.
+fn finished(book: &Book, limits: &[u16]) -> Vec<Said> {
+    let bytes = write(book);
+    let limit = |&limit| NonZeroU16::new(limit).expect("a limit is above 0");
+    let orders = limits.iter().map(limit);
+    let list = OrderList::of(orders.map(|limit| Order::FinishWithin { limit })).expect("few");
+    let mut space = Space::new();
+    let answers = check(&bytes).expect("a right book").run(&list, &mut space);
+    assert_eq!(answers.accepted(), limits.len());
+    let said = |it: Answer| {
+        (
+            it.outcome(),
+            it.tries(),
+            it.full_set().map(Iterator::collect),
+        )
+    };
+    answers.iter().skip(1).map(said).collect()
+}
+
+/// "Byte 3 is 3, stopped, exactly when the answer needs more tries than the limit": harbour H needs 2, and no
+/// larger limit changes what is found.
+#[test]
+fn a_finish_within_its_limit() {
+    let stopped = (Some(Outcome::Stopped), Some(1), None);
+    let found = (Some(Outcome::Found), Some(2), Some(vec![0, 0, 0]));
+    let said = finished(&harbour(), &[1, 2, 3, 65_535]);
+    assert_eq!(said, [stopped, found.clone(), found.clone(), found]);
+}
+
+/// K7 needs 2 tries, both of them dead: stopped is not none, and the last try may tell that there is none.
+#[test]
+fn none_within_its_limit() {
+    let pair = |columns: [u8; 2]| Sheet {
+        columns: columns.to_vec(),
+        rows: vec![vec![0, 1], vec![1, 0]],
+    };
+    let k7 = Book {
+        counts: vec![2; 3],
+        sheets: [[0, 1], [0, 2], [1, 2]].map(pair).to_vec(),
+    };
+    let none = (Some(Outcome::None), Some(2), None);
+    let stopped = (Some(Outcome::Stopped), Some(1), None);
+    let said = finished(&k7, &[1, 2, 65_535]);
+    assert_eq!(said, [stopped, none.clone(), none]);
+}
+
+/// A dead session has none and a decided one its set without a try; a finish that names no limit has the
+/// largest, and one that names a larger is refused. No answer but an accepted finish's has tries.
+#[test]
+fn tries_of_finishes_alone() -> Result<(), Refusal> {
+    let bytes = write(&harbour());
+    let mut list = OrderList::new();
+    list.finish()?.push(Order::Raw([4, 0, 0, 0, 0, 0, 1, 0]))?;
+    list.mark()?.narrow(WIDTH, Values::from_mask(4))?.finish()?;
+    list.narrow(WIDTH, Values::NONE)?.finish()?.back(1)?;
+    let mut space = Space::new();
+    let answers = check(&bytes)?.run(&list, &mut space);
+    let tries = [
+        None,
+        Some(2),
+        None,
+        None,
+        None,
+        Some(0),
+        None,
+        Some(0),
+        None,
+    ];
+    assert!(answers.iter().map(|it| it.tries()).eq(tries));
+    let outcomes = answers.iter().filter_map(|it| it.outcome());
+    assert!(outcomes.eq([Outcome::Found, Outcome::Found, Outcome::None]));
+    assert!(answers.refused().eq([(2, OrderRefusal::Limit)]));
+    assert!(answers.iter().all(|it| it.bytes()[5] == 0));
+    let without = answers.iter().filter(|it| it.outcome().is_none());
+    assert!(without.into_iter().all(|it| it.bytes()[6..8] == [0, 0]));
     Ok(())
 }

@@ -2,8 +2,8 @@
 
 use crate::Input;
 use conformance::{
-    compare_run, count_done, count_short, count_steps, space_for, Calls, Seen, Tally, FENCE,
-    LIBRARY,
+    compare_run, count_done, count_short, count_steps, count_tries, space_for, Calls, Seen, Tally,
+    FENCE, LIBRARY,
 };
 
 /// Compares both versions on the input that these bytes stand for, and counts it. A difference
@@ -13,8 +13,8 @@ pub fn try_bytes(bytes: &[u8], tally: &mut Tally) {
     let agreed = compare(&input, &LIBRARY);
     let (checked, ran, answers) = agreed.unwrap_or_else(|difference| panic!("{difference}"));
     tally.add("inputs tried", 1);
-    if input.aside > 0 {
-        tally.add("finishes put aside", input.aside);
+    if input.shortened > 0 {
+        tally.add("finishes with a smaller limit", input.shortened);
     }
     tally.add(&format!("books, refusal {}", checked / 65_536), 1);
     tally.add(&format!("runs, refusal {}", ran / 65_536), 1);
@@ -24,6 +24,7 @@ pub fn try_bytes(bytes: &[u8], tally: &mut Tally) {
         count_steps(tally, &book.counts, orders, &answers);
         count_short(tally, &book, &answers);
         count_done(tally, &book, orders, &answers);
+        count_tries(tally, &book, orders, &answers);
     }
 }
 

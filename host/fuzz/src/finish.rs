@@ -1,15 +1,15 @@
-//! Finishes whose search is long are put aside before the calls: on a large book one may take
-//! minutes, in any engine.
+//! Finishes whose searches are long get smaller limits before the calls: each ends, but 256 of 65,535 tries in a
+//! large book would take the independent version long.
 
-use conformance::{searches, space_for, Order, Seen, NO_KIND};
-use reference::search;
+use conformance::{finish, searches, space_for, Order, Seen, NO_KIND};
+use reference::{limit_of, search};
 
 /// The rows that the searches of one list may look at, each time they settle.
-const ROWS_OF_A_LIST: usize = 1 << 15;
+const ROWS_OF_A_LIST: u32 = 1 << 15;
 
-/// Puts an order of no kind in the place of each finish from the first on whose search doesn't end
-/// within the rows that a list may look at; gives how many. A list that isn't run stays as it is.
-pub fn put_aside_long_finishes(book: &[u8], orders: &mut [u8]) -> usize {
+/// Gives each finish that would make more tries than are left to its list a limit of these, or of 1 if there are none;
+/// gives how many. A list that isn't run stays as it is.
+pub fn shorten_finishes(book: &[u8], orders: &mut [u8]) -> usize {
     let (list, rest) = orders.as_chunks_mut();
     if !rest.is_empty() || !list.iter().any(searches) {
         return 0;
@@ -19,17 +19,21 @@ pub fn put_aside_long_finishes(book: &[u8], orders: &mut [u8]) -> usize {
     };
     // One more, so that a book without rows has a bound too.
     let rows = 1 + described.sheets.iter().map(|s| s.rows.len()).sum::<usize>();
-    let mut tries = ROWS_OF_A_LIST / rows;
+    let mut left = ROWS_OF_A_LIST / rows as u32;
     let before = seen_before(book, list);
-    let mut aside = 0;
-    for (order, seen) in list.iter_mut().zip(&before) {
+    let mut shortened = 0;
+    for (order, seen) in list.iter_mut().zip(&before).filter(|(it, _)| searches(it)) {
         let domains = &seen.domains[..described.counts.len()];
-        if searches(order) && search(&described, domains, &mut tries).is_none() {
-            *order = NO_KIND;
-            aside += 1;
+        let limit = limit_of(order);
+        let within = limit.min(left);
+        let ended = search(&described, domains, within);
+        if ended.is_none() && within < limit {
+            *order = finish(within.max(1));
+            shortened += 1;
         }
+        left -= ended.map_or(within, |(_, tries)| tries);
     }
-    aside
+    shortened
 }
 
 /// The state before each order. A finish changes nothing, so the list is run without any; of a list

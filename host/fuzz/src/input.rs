@@ -24,7 +24,7 @@
 //!   a byte of a row that is 255 is any, and stays so
 //! ```
 
-use crate::put_aside_long_finishes;
+use crate::shorten_finishes;
 use conformance::{mend, space_for, write, Book, Random, Sheet, ANY, BLOCK};
 use reference::Kind;
 
@@ -50,8 +50,8 @@ pub struct Input {
     pub orders: Vec<u8>,
     /// The bytes of the space for the answers.
     pub space: usize,
-    /// Finishes that were put aside because their search is long.
-    pub aside: usize,
+    /// Finishes that were given a smaller limit because their search is long.
+    pub shortened: usize,
 }
 
 impl Input {
@@ -84,13 +84,13 @@ impl Input {
         if form & MENDED != 0 {
             mend(&mut book);
         }
-        let aside = put_aside_long_finishes(&book, &mut orders);
+        let shortened = shorten_finishes(&book, &mut orders);
         let space = space(form, room, space_for(&orders));
         Self {
             book,
             orders,
             space,
-            aside,
+            shortened,
         }
     }
 }

@@ -1,13 +1,14 @@
 //! The first inputs of a fuzz run: the conformance kit, small sweeps, and seeded books and lists.
 
 use crate::{described, described_by_seed, raw, LONGEST_INPUT, MENDED};
-use conformance::{back, changed, harbour, kit, narrow, one_sheet, regular, stairs, tiny, write};
+use conformance::{back, changed, contradicting, finish, harbour, kit, narrow, one_sheet, regular};
+use conformance::{stairs, tiny, tries_of_contradicting, write};
 use conformance::{Book, Case, Run, Sheet, ANY, FINISH, MARK};
 use std::ops::Range;
 
 /// The first inputs, always the same: the vectors of the conformance kit, sweeps over single bytes, over pairs
-/// of row bytes and over row counts, sheets that are done or nearly, and so many seeded runs and seeded books,
-/// damaged ones among them.
+/// of row bytes and over row counts, sheets that are done or nearly, limits of finishes, and so many seeded runs
+/// and seeded books, damaged ones among them.
 pub fn seeds(count: u64) -> Vec<Vec<u8>> {
     let mut seeds = Vec::new();
     for vector in kit::vectors() {
@@ -34,6 +35,7 @@ pub fn seeds(count: u64) -> Vec<Vec<u8>> {
     }
     seeds.extend(done_sheets());
     seeds.extend((0..7).map(last_rows_of_a_word));
+    seeds.extend(limits());
     for seed in 0..count {
         let run = Run::new(seed);
         seeds.extend(both(&run.book, &run.orders));
@@ -148,6 +150,35 @@ fn last_rows_of_a_word(word: usize) -> Vec<u8> {
     };
     let book = one_sheet(&[2; 3], (0..first + 4).map(row).collect());
     raw(MENDED, &write(&book), &narrow(2, 1))
+}
+
+/// Finishes with limits on both sides of what they need, and of the largest: of a set, of none, and of a search that
+/// no limit ends.
+fn limits() -> Vec<Vec<u8>> {
+    let mut seeds = Vec::new();
+    for (book, needed) in [
+        (harbour(), 2),
+        (contradicting(&[], 2), 2),
+        (
+            contradicting(&[3, 2], 3),
+            tries_of_contradicting(&[3, 2], 3),
+        ),
+        (contradicting(&[32; 13], 2), 256),
+    ] {
+        for limit in [
+            1,
+            needed - 1,
+            needed,
+            needed + 1,
+            0,
+            65_535,
+            65_536,
+            1 << 24,
+        ] {
+            seeds.extend(both(&write(&book), &finish(limit)));
+        }
+    }
+    seeds
 }
 
 /// A book of two columns of 32 values and a sheet of these rows, with these orders.

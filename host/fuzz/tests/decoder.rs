@@ -1,8 +1,9 @@
 //! Any bytes are an input, and the inputs that come of them are of every kind.
 
-use conformance::{example_orders, harbour, look_for_done, look_for_steps, regular, space_for};
-use conformance::{write, Random, Tally, ANY, FINISH, NO_KIND};
-use fuzz::{described, put_aside_long_finishes, raw, seeds, try_bytes};
+use conformance::{contradicting, example_orders, finish, harbour, narrow, regular, space_for};
+use conformance::{look_for_done, look_for_steps, look_for_tries};
+use conformance::{write, Random, Tally, ANY, FINISH};
+use fuzz::{described, raw, seeds, shorten_finishes, try_bytes};
 use fuzz::{Input, DESCRIBED, LONGEST_INPUT, MENDED};
 use reference::{book_refusals, run_refusals};
 
@@ -95,24 +96,29 @@ fn every_length_of_a_space() {
     }
 }
 
-/// Each finish of document 01's list is kept; one that goes through 32 values of 16 columns isn't.
+/// Each finish of document 01's list stays, and each that a small limit stops. One that goes through 32 values of
+/// 13 columns gets the tries that are left to its list, those after it one each; and what has no search stays.
 #[test]
-fn long_finishes_are_put_aside() {
+fn long_finishes_get_a_smaller_limit() {
     let mut orders = example_orders().concat();
-    assert_eq!(put_aside_long_finishes(&write(&harbour()), &mut orders), 0);
+    assert_eq!(shorten_finishes(&write(&harbour()), &mut orders), 0);
     assert_eq!(orders, example_orders().concat());
-    // The two sheets have no row in common, but each value has a row in both: it shows only where
-    // column 14 is set, so the search goes through all values of the fourteen columns before.
-    let mut book = regular(16, 32, 2, 32, 2);
-    for (sheet, by) in book.sheets.iter_mut().zip(0..) {
-        sheet.columns = vec![14, 15];
-        sheet.rows = (0..32)
-            .map(|value| vec![value, (value + by) % 32])
-            .collect();
-    }
-    let mut orders = FINISH.repeat(3);
-    assert_eq!(put_aside_long_finishes(&write(&book), &mut orders), 3);
-    assert_eq!(orders, NO_KIND.repeat(3));
+    let book = write(&contradicting(&[32; 13], 2));
+    let dead = narrow(0, 0);
+    let list = [finish(100), FINISH, finish(9), finish(65_536), dead, FINISH];
+    let mut orders = list.concat();
+    assert_eq!(shorten_finishes(&book, &mut orders), 2);
+    // Two rows in each of three sheets, and one more.
+    let left = (1 << 15) / 7 - 100;
+    let shorter = [
+        finish(100),
+        finish(left),
+        finish(1),
+        finish(65_536),
+        dead,
+        FINISH,
+    ];
+    assert_eq!(orders, shorter.concat());
 }
 
 /// A few thousand inputs agree, and each kind of answer is among them.
@@ -122,6 +128,7 @@ fn seeded_inputs_agree_and_are_of_every_kind() {
     let mut tally = Tally::default();
     look_for_steps(&mut tally);
     look_for_done(&mut tally);
+    look_for_tries(&mut tally);
     for (refusal, _) in book_refusals() {
         tally.add(&format!("books, refusal {refusal}"), 0);
     }

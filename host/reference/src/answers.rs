@@ -30,8 +30,9 @@ pub(crate) fn done(book: &Book, domains: &[u32]) -> u8 {
 }
 
 /// "byte 0 the refusal or 0; byte 1 status; byte 2 depth; byte 3 zero, or for an accepted finish 1
-/// found, 2 none; byte 4 done; bytes 5 to 7 zero; bytes 8 to 71 sixteen domains of 32 bits, zero
-/// from C on."
+/// found, 2 none", and "3, stopped"; "byte 4 done"; byte 5 zero; "bytes 6 and 7 carry the tries made" by
+/// an accepted finish, else they are zero too; "bytes 8 to 71 sixteen domains of 32 bits, zero from C
+/// on."
 pub(crate) fn answer(book: &Book, shown: &Shown) -> [u8; 72] {
     let mut bytes = [0; 72];
     bytes[0] = shown.refusal;
@@ -41,19 +42,22 @@ pub(crate) fn answer(book: &Book, shown: &Shown) -> [u8; 72] {
         Outcome::NoFinish => 0,
         Outcome::Found(_) => 1,
         Outcome::None => 2,
+        Outcome::Stopped => 3,
     };
     bytes[4] = done(book, &shown.domains);
+    bytes[6..8].copy_from_slice(&shown.tries.to_le_bytes()[..2]);
     for (column, domain) in domains_shown(shown).into_iter().enumerate() {
         bytes[8 + 4 * column..12 + 4 * column].copy_from_slice(&domain.to_le_bytes());
     }
     bytes
 }
 
-/// "An accepted finish puts the full set there, one bit for each column, or zeros for none."
+/// "An accepted finish puts the full set there, one bit for each column, or zeros for none." When it is
+/// stopped, "the domains are then zero".
 fn domains_shown(shown: &Shown) -> Vec<u32> {
     match &shown.outcome {
         Outcome::NoFinish => shown.domains.clone(),
         Outcome::Found(set) => set.iter().map(|&value| value_bit(value)).collect(),
-        Outcome::None => vec![0; shown.domains.len()],
+        Outcome::None | Outcome::Stopped => vec![0; shown.domains.len()],
     }
 }

@@ -2,7 +2,8 @@
 
 use crate::Book;
 
-/// "orders of 8 bytes: byte 0 kind, byte 1 argument, bytes 2, 3 zero, bytes 4 to 7 a mask"
+/// "orders of 8 bytes: byte 0 kind, byte 1 argument, bytes 2, 3 zero, bytes 4 to 7 a mask", of a finish
+/// "a limit"
 pub type Order = [u8; 8];
 
 /// The kinds of orders, by their numbers.
@@ -70,8 +71,11 @@ impl Kind {
                     order[1] == 0 || mark_of(order) > depth(trail)
                 }),
             ],
-            // "Refused with 25 if any of bytes 1 to 7 isn't zero."
-            Self::Finish => &[(25, |order, _, _| any_set(&order[1..=7]))],
+            // "27 for a larger limit, after 25, which covers only bytes 1 to 3 here."
+            Self::Finish => &[
+                (25, |order, _, _| any_set(&order[1..=3])),
+                (27, |order, _, _| limit_of(order) > MOST_TRIES),
+            ],
             // "Other kinds are refused with 20, before the rest."
             Self::Other => &[(20, |_, _, _| true)],
         }
@@ -155,6 +159,21 @@ fn mark_of(order: &Order) -> usize {
 
 /// "bytes 4 to 7 a mask", the lowest byte first.
 pub(crate) fn mask_of(order: &Order) -> u32 {
+    last_four_of(order)
+}
+
+/// "a limit from 1 to 65,535"
+pub const MOST_TRIES: u32 = 65_535;
+
+/// "Bytes 4 to 7 of a finish become a limit from 1 to 65,535; 0 is read as 65,535."
+pub fn limit_of(order: &Order) -> u32 {
+    match last_four_of(order) {
+        0 => MOST_TRIES,
+        limit => limit,
+    }
+}
+
+fn last_four_of(order: &Order) -> u32 {
     u32::from_le_bytes([order[4], order[5], order[6], order[7]])
 }
 

@@ -2,7 +2,7 @@
 
 use crate::closure::closure;
 use crate::finish::finish;
-use crate::orders::{allowed, depth, refusal, stand, Entry, Kind, Order};
+use crate::orders::{allowed, depth, limit_of, refusal, stand, Entry, Kind, Order};
 use crate::Book;
 
 /// What can be seen of a session after an order, or at the opening.
@@ -16,9 +16,11 @@ pub struct Shown {
     pub domains: Vec<u32>,
     /// What an accepted finish found.
     pub outcome: Outcome,
+    /// "the tries made" by an accepted finish, else 0.
+    pub tries: u32,
 }
 
-/// "byte 3 zero, or for an accepted finish 1 found, 2 none"
+/// "byte 3 zero, or for an accepted finish 1 found, 2 none"; "3, stopped"
 #[derive(Clone, Debug, PartialEq, Eq)]
 pub enum Outcome {
     /// The opening, a refused order, or one of another kind.
@@ -27,6 +29,8 @@ pub enum Outcome {
     Found(Vec<u8>),
     /// There is no full set.
     None,
+    /// "the answer needs more tries than the limit"
+    Stopped,
 }
 
 /// The opening, then what stands after each order of the list.
@@ -40,7 +44,7 @@ pub fn session(book: &Book, orders: &[Order]) -> Vec<Shown> {
         }
         let mut after = show(book, &trail, refusal);
         if refusal == 0 && Kind::of(order) == Kind::Finish {
-            after.outcome = finish(book, &after.domains);
+            (after.outcome, after.tries) = finish(book, &after.domains, limit_of(order));
         }
         shown.push(after);
     }
@@ -55,5 +59,6 @@ fn show(book: &Book, trail: &[Entry], refusal: u8) -> Shown {
         depth: depth(trail),
         domains: closure(book, &allowed(book, trail)),
         outcome: Outcome::NoFinish,
+        tries: 0,
     }
 }

@@ -3,6 +3,7 @@
 
 mod defined;
 mod done;
+mod finish;
 mod short;
 
 use crate::{book_refusals, check, decode, run_refusals, Book, Kind, Sheet};
@@ -86,7 +87,7 @@ fn kinds_and_refusals() {
     assert!(places.eq([(1, 1), (2, 33), (3, 505), (4, 33), (5, rows), (6, rows)]));
     assert_eq!(run_refusals(), [10, 11]);
     let refusals = Kind::ALL.map(Kind::refusals);
-    let expected: [&[u8]; 5] = [&[25, 21, 22], &[25, 23], &[25, 24], &[25], &[20]];
+    let expected: [&[u8]; 5] = [&[25, 21, 22], &[25, 23], &[25, 24], &[25, 27], &[20]];
     assert_eq!(refusals, expected);
     for (number, kind) in (1..).zip(&Kind::ALL[..4]) {
         assert_eq!(Kind::of(&[number; 8]), *kind);

@@ -1,12 +1,12 @@
 -- Two functions that call each other, one proof. What each knows of its callees is named once (`picks`, `tries`); the values left fall.
-use mathlib.Core.Path.{refl}
-use Prim.Native.Nat.{_*_, _+_, _<_, ℕ}
+use mathlib.Core.Path.{ap, refl}
+use Prim.Native.Nat.{_*_, _+_, _<_, _≤_, ℕ}
 use native.Mathlib.Omega.{arith}
 use borrow.Author.Needs.{needs}
 use borrow.Fn.Kinds.{In}
 use borrow.Fn.PlainCycle.{Measures, is, falls, and}
 use Rattle.engine.proofs.Worklists.{sixteen-columns}
-use Rattle.search.proofs.Searches.{Untried, found-assigned, found-none, picked-found, picked-none, picked-value, untried-all, untried-less, value-fewer, value-filled, value-found, value-none, value-ready, value-small, valuesLeft}
+use Rattle.search.proofs.Searches.{Untried, found-assigned, none-reached, picked-found, picked-none, picked-stopped, picked-value, untried-all, untried-less, value-fewer, value-filled, value-found, value-none, value-ready, value-small, valuesLeft}
 use Rattle.search.proofs.pick_column.Reads as pick-column
 use Rattle.search.proofs.pick_column.Kinds as pick-column-kinds
 use Rattle.search.proofs.+pick_column+try_value.Lts-pick_column as pick-column-lts
@@ -51,12 +51,12 @@ picks t = (
   open-column-reads.Learnt,
   lowest-value-reads.Asked,
   lowest-value-reads.Learnt,
+  nothing-reads.Asked,
+  nothing-reads.Learnt,
   try-value-below t,
   try-value.Post,
   others-reads.Asked,
   others-reads.Learnt,
-  nothing-reads.Asked,
-  nothing-reads.Learnt,
 )
 
 abbrev tries : ℕ → try-value-lts.Claims
@@ -74,49 +74,72 @@ tries t = (
 )
 
 abbrev pick-column-Inv-loop : pick-column-lts.InvT-loop
-pick-column-Inv-loop book begins scopes shorts dom valid index nonzero c rest₀ rest = Untried book dom c rest
+pick-column-Inv-loop book begins scopes shorts dom valid index nonzero limit made c rest₀ tries₀ rest tries =
+    Untried book dom c made rest tries × (tries ≤ limit)
 
 abbrev pick-column-μ-loop : pick-column-lts.MeasureT-loop
-pick-column-μ-loop book begins scopes shorts dom valid index nonzero c rest₀ rest = rest
+pick-column-μ-loop book begins scopes shorts dom valid index nonzero limit made c rest₀ tries₀ rest tries = rest
 
 pick-column-returns : (t : ℕ) → pick-column-lts.Need-returns (picks t) (pick-column-at t) pick-column.Post pick-column-Inv-loop pick-column-μ-loop
 pick-column-returns t c =
-    let p = c .before .before .before .before .pre in
+    let p = c .before .before .before .before .pre .1 in
     let o = c .before .before .open-column .ensures in
-    found-assigned _ (p .1 .0 .accepted) (p .1 .1) _ o (omega (arith, c .before .if1 .taken)) refl refl
+    found-assigned _ (p .0 .accepted) (p .1) _ o (omega (arith, c .before .if1 .taken)) (p .2) refl refl refl
 
 pick-column-loop-holds : (t : ℕ) → pick-column-lts.Need-loop-holds (picks t) (pick-column-at t) pick-column.Post pick-column-Inv-loop pick-column-μ-loop
 pick-column-loop-holds t c =
-    untried-all _ _ _
-
-pick-column-try-value-requires : (t : ℕ) → pick-column-lts.Need-try-value-requires (picks t) (pick-column-at t) pick-column.Post pick-column-Inv-loop pick-column-μ-loop
-pick-column-try-value-requires t c κs =
-    let p = c .before .before .before .before .before .before .before .pre in
-    let o = c .before .before .before .before .before .open-column .ensures in
-    let l : c .before .before .before .before .before .open-column .result < 16 = omega (arith, o .to, c .before .before .before .before .if1 .left) in
-    let u = c .before .before .loop .inv in
-    (omega (arith, p .0), (p .1 .0, p .1 .1, picked-value _ (p .1 .0 .accepted) (p .1 .1) o l u (c .lowest-value .ensures .1)))
+    let p = c .before .before .before .before .pre .1 in
+    let o = c .before .before .open-column .ensures in
+    let l : c .before .before .open-column .result < 16 = omega (arith, o .to, c .before .if1 .left) in
+    (untried-all _ (p .0 .accepted) (p .1) o l _, p .2)
 
 pick-column-returns-2 : (t : ℕ) → pick-column-lts.Need-returns-2 (picks t) (pick-column-at t) pick-column.Post pick-column-Inv-loop pick-column-μ-loop
 pick-column-returns-2 t c =
-    let p = c .before .before .before .before .before .before .before .before .before .pre in
+    let p = c .before .before .before .before .before .before .before .before .before .pre .1 in
     let o = c .before .before .before .before .before .before .before .open-column .ensures in
     let l : c .before .before .before .before .before .before .before .open-column .result < 16 = omega (arith, o .to, c .before .before .before .before .before .before .if1 .left) in
     let u = c .before .before .before .before .loop .inv in
     let v = c .before .before .lowest-value .ensures in
-    picked-found _ (p .1 .0 .accepted) (p .1 .1) o l u (v .0) (v .1) (c .before .try-value .ensures) (c .if2 .taken)
+    picked-stopped _ (p .0 .accepted) (p .1) o l (u .0) (v .0) (v .1) (c .nothing .ensures) (c .before .if2 .taken)
 
-pick-column-loop-again : (t : ℕ) → pick-column-lts.Need-loop-again (picks t) (pick-column-at t) pick-column.Post pick-column-Inv-loop pick-column-μ-loop
-pick-column-loop-again t c =
-    untried-less (c .before .before .before .before .before .loop .inv) (c .before .before .before .lowest-value .ensures .0) (c .others .ensures .0) (c .before .before .try-value .ensures) (c .before .if2 .left)
+pick-column-add-try-value : (t : ℕ) → pick-column-lts.Need-add-try-value (picks t) (pick-column-at t) pick-column.Post pick-column-Inv-loop pick-column-μ-loop
+pick-column-add-try-value t c =
+    omega (arith, c .before .before .before .loop .inv .1, c .if2 .left, c .before .before .before .before .before .before .before .before .fits .limit .fits)
+
+pick-column-try-value-requires : (t : ℕ) → pick-column-lts.Need-try-value-requires (picks t) (pick-column-at t) pick-column.Post pick-column-Inv-loop pick-column-μ-loop
+pick-column-try-value-requires t c κs =
+    let q = c .before .before .before .before .before .before .before .before .pre .0 in
+    let p = c .before .before .before .before .before .before .before .before .pre .1 in
+    let o = c .before .before .before .before .before .before .open-column .ensures in
+    let l : c .before .before .before .before .before .before .open-column .result < 16 = omega (arith, o .to, c .before .before .before .before .before .if1 .left) in
+    let u = c .before .before .before .loop .inv in
+    (omega (arith, q), (p .0, p .1, picked-value _ (p .0 .accepted) (p .1) o l (u .0) (c .before .lowest-value .ensures .1), omega (arith, u .1, c .if2 .left)))
 
 pick-column-returns-3 : (t : ℕ) → pick-column-lts.Need-returns-3 (picks t) (pick-column-at t) pick-column.Post pick-column-Inv-loop pick-column-μ-loop
 pick-column-returns-3 t c =
-    let p = c .before .before .before .before .before .before .before .pre in
+    let p = c .before .before .before .before .before .before .before .before .before .before .before .pre .1 in
+    let o = c .before .before .before .before .before .before .before .before .before .open-column .ensures in
+    let l : c .before .before .before .before .before .before .before .before .before .open-column .result < 16 = omega (arith, o .to, c .before .before .before .before .before .before .before .before .if1 .left) in
+    let u = c .before .before .before .before .before .before .loop .inv in
+    let v = c .before .before .before .before .lowest-value .ensures in
+    picked-found _ (p .0 .accepted) (p .1) o l (u .0) (v .0) (v .1) (c .before .before .try-value .ensures) (c .if3 .taken)
+
+pick-column-loop-again : (t : ℕ) → pick-column-lts.Need-loop-again (picks t) (pick-column-at t) pick-column.Post pick-column-Inv-loop pick-column-μ-loop
+pick-column-loop-again t c =
+    let p = c .before .before .before .before .before .before .before .before .before .before .before .before .pre .1 in
+    let o = c .before .before .before .before .before .before .before .before .before .before .open-column .ensures in
+    let l : c .before .before .before .before .before .before .before .before .before .before .open-column .result < 16 = omega (arith, o .to, c .before .before .before .before .before .before .before .before .before .if1 .left) in
+    let u = c .before .before .before .before .before .before .before .loop .inv in
+    let v = c .before .before .before .before .before .lowest-value .ensures in
+    untried-less _ (p .0 .accepted) (p .1) o l (u .0) (v .0) (v .1) (c .others .ensures .0) (c .before .before .before .try-value .ensures) (c .before .if3 .left)
+
+pick-column-returns-4 : (t : ℕ) → pick-column-lts.Need-returns-4 (picks t) (pick-column-at t) pick-column.Post pick-column-Inv-loop pick-column-μ-loop
+pick-column-returns-4 t c =
+    let p = c .before .before .before .before .before .before .before .pre .1 in
     let o = c .before .before .before .before .before .open-column .ensures in
     let l : c .before .before .before .before .before .open-column .result < 16 = omega (arith, o .to, c .before .before .before .before .if1 .left) in
     let u = c .before .before .loop .inv in
-    found-none _ _ (c .nothing .ensures) (picked-none _ (p .1 .0 .accepted) (p .1 .1) o l u (c .before .loop-test .left))
+    picked-none _ (p .0 .accepted) (p .1) o l (u .0) (c .before .loop-test .left) (u .1) (c .nothing2 .ensures)
 
 try-value-cast-column : (t : ℕ) → try-value-lts.Need-cast-column (tries t) (try-value-at t) try-value.Post
 try-value-cast-column t c =
@@ -159,7 +182,7 @@ try-value-pick-column-requires t c κs =
     let m = c .before .before .before .before .before .before .before .before .before .before .only .ensures in
     let r = c .before .before .before .before .before .fixpoint .ensures in
     let k = c .before .before .before .before .if1 .taken in
-    (omega (arith, q .0, value-fewer _ (p .0 .accepted) (p .1) (p .2) m r k), (p .0, value-filled _ (p .0 .accepted) (p .1) (p .2) m r k))
+    (omega (arith, q .0, value-fewer _ (p .0 .accepted) (p .1) (p .2) m r k), (p .0, value-filled _ (p .0 .accepted) (p .1) (p .2) m r k, p .3))
 
 try-value-returns : (t : ℕ) → try-value-lts.Need-returns (tries t) (try-value-at t) try-value.Post
 try-value-returns t c =
@@ -169,7 +192,8 @@ try-value-returns t c =
 try-value-returns-2 : (t : ℕ) → try-value-lts.Need-returns-2 (tries t) (try-value-at t) try-value.Post
 try-value-returns-2 t c =
     let p = c .before .before .before .before .before .before .before .before .before .before .before .before .before .before .pre .1 in
-    found-none _ _ (c .nothing .ensures) (value-none _ (p .0 .accepted) (p .1) (p .2) (c .before .before .before .before .before .before .before .only .ensures) (c .before .before .fixpoint .ensures) (c .before .if1 .left))
+    let e = value-none _ (p .0 .accepted) (p .1) (p .2) (c .before .before .before .before .before .before .before .only .ensures) (c .before .before .fixpoint .ensures) (c .before .if1 .left) in
+    none-reached _ (c .nothing .ensures) refl (ap (λ g. g .solution) e) (omega (arith, ap (λ g. g .tries) e)) (p .3)
 
 pub +pick-column+try-value-spec : {M : Type 1} → statement M
 +pick-column+try-value-spec = close μ-pick-column μ-try-value (λ t. pick-column-lts.spec (picks t)
@@ -183,13 +207,16 @@ pub +pick-column+try-value-spec : {M : Type 1} → statement M
     (λ c. search needs)
     (pick-column-loop-holds t)
     (λ c κs. search needs)
-    (pick-column-try-value-requires t)
+    (λ c κs. search needs)
     (pick-column-returns-2 t)
+    (pick-column-add-try-value t)
+    (pick-column-try-value-requires t)
+    (pick-column-returns-3 t)
     (λ c κs. search needs)
     (λ c. search needs)
     (pick-column-loop-again t)
     (λ c κs. search needs)
-    (pick-column-returns-3 t))
+    (pick-column-returns-4 t))
     λ t. try-value-lts.spec (tries t)
     (try-value-at t)
     try-value.Post

@@ -6,13 +6,13 @@ use Rattle.search.proofs.finish.Tie as tie
 
 returns : tie.Need-returns
 returns c =
-    finish-failed _ (c .before .before .before .before .pre .0 .accepted) _ _ (c .nothing .ensures) (omega (arith, c .before .if1 .taken))
+    finish-failed _ (c .before .before .before .before .pre .0 .accepted) _ _ _ (c .nothing .ensures) (omega (arith, c .before .if1 .taken))
 
 pick-column-requires : tie.Need-pick-column-requires
 pick-column-requires c κs =
     let e = c .before .before .before .before .before .before .before in
     let p = e .before .before .before .pre in
-    (p .0, finish-filled _ (p .0 .accepted) _ (p .1) (e .if1 .left))
+    (p .0, finish-filled _ (p .0 .accepted) _ (p .1) (e .if1 .left), omega arith)
 
 returns-2 : tie.Need-returns-2
 returns-2 c =

@@ -12,7 +12,7 @@ returns c =
     let t : tie.After-summarise = search in
     let a : tie.After-state-only = search in
     let w : tie.After-show = search in
-    opens-with _ (t .summarise .ensures) (a .state-only .ensures .0) (a .state-only .ensures .1) (w .show .ensures)
+    opens-with _ (t .summarise .ensures) (a .state-only .ensures) (w .show .ensures)
 
 pub show-opening-spec : {M : Type 1} → statement M
 show-opening-spec = tie.close (tie.spec (λ c κs. search needs) (λ c κs. search needs) show-requires (search needs) returns)

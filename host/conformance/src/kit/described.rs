@@ -6,7 +6,7 @@
 //!     book harbour 4=0 mend        a book of the kit's contents, and what is done to its bytes in turn: a
 //!                                  byte set (88..508=255 sets several), `length=N`, or the checks mended
 //!     orders 16 times mark         orders in words, or 5.0.0.0.0.0.0.0 for their bytes; lines are joined
-//!     orders narrow 0 4 back 1
+//!     orders narrow 0 4 back 1 within 2     a finish is `finish`, or `within` its limit
 //!     space 216                    the bytes of the answer space
 //!     fill 0                       what each of them is before the run
 //! ```
@@ -15,7 +15,7 @@
 //! fill.
 
 use super::{folder, read_contents, Vector, FILL};
-use crate::{back, mend, narrow, write, FINISH, MARK};
+use crate::{back, finish, mend, narrow, write, FINISH, MARK};
 use std::fs;
 use std::str::{FromStr, SplitWhitespace};
 
@@ -98,6 +98,7 @@ fn orders(mut words: SplitWhitespace) -> Vec<u8> {
         match word {
             "mark" => orders.extend(MARK),
             "finish" => orders.extend(FINISH),
+            "within" => orders.extend(finish(words.next().map_or(0, number))),
             "back" => orders.extend(back(words.next().map_or(0, number))),
             "narrow" => {
                 let column = words.next().map_or(0, number);

@@ -1,13 +1,13 @@
-//! The settled domains, the first full set and the done sheets once more, by nothing but their definitions: every
-//! box that there is, every set, and every choice.
+//! The settled domains, the first full set, the tries and the done sheets once more, by nothing but their
+//! definitions: every box that there is, every set, every try, and every choice.
 
 use super::{described, described_harbour};
 use crate::cells::matched;
 use crate::done::allows_every_choice;
-use crate::finish::{by_trying_all, finish, is_full, one_of_each, sets_within, values_of};
+use crate::finish::{finish, one_of_each, values_of};
 use crate::orders::value_bit;
 use crate::{all_values, closure, is_short, lies_in, search, written_out};
-use crate::{Book, Outcome, Sheet, ANY};
+use crate::{Book, Outcome, Sheet, ANY, MOST_TRIES};
 
 /// "A *sound box* has no empty column, and in it, for each sheet, every value of every column of
 /// that sheet is carried by a row of that sheet lying in the box."
@@ -60,10 +60,47 @@ pub(super) fn choices_missing(sheet: &Sheet, domains: &[u32]) -> usize {
     choices.len()
 }
 
-/// The search with all the tries that it wants.
-fn by_search(book: &Book, domains: &[u32]) -> Outcome {
-    let mut tries = usize::MAX;
-    search(book, domains, &mut tries).unwrap()
+/// "its values in each sheet's columns form a row"; short rows too, since "Full sets match in the same
+/// way": the row lies in the box of these values alone.
+fn is_full(book: &Book, set: &[u8]) -> bool {
+    let alone: Vec<u32> = set.iter().map(|&value| value_bit(value)).collect();
+    let mut sheets = book.sheets.iter();
+    sheets.all(|sheet| sheet.rows.iter().any(|row| lies_in(sheet, row, &alone)))
+}
+
+/// "A full set takes one value of each current domain, and its values in each sheet's columns form
+/// a row. The first is lowest by column 0, then column 1, and so on."
+fn by_trying_all(book: &Book, domains: &[u32]) -> Outcome {
+    let values: Vec<_> = domains.iter().map(|&domain| values_of(domain)).collect();
+    let mut sets = one_of_each(&values).into_iter();
+    let first = sets.find(|set| is_full(book, set));
+    first.map_or(Outcome::None, Outcome::Found)
+}
+
+/// The boxes that the search settles, one for each try, in their order: all of them, the first full set
+/// passed over like any other end.
+fn every_try(book: &Book, domains: &[u32], boxes: &mut Vec<Vec<u32>>) {
+    if domains.contains(&0) {
+        return;
+    }
+    let Some(column) = domains.iter().position(|domain| domain.count_ones() > 1) else {
+        return;
+    };
+    for value in values_of(domains[column]) {
+        let mut tried = domains.to_vec();
+        tried[column] = value_bit(value);
+        boxes.push(closure(book, &tried));
+        every_try(book, &boxes[boxes.len() - 1].clone(), boxes);
+    }
+}
+
+/// How many of them there are "up to the first full set or the search's end".
+fn tries_needed(book: &Book, domains: &[u32]) -> u32 {
+    let is_set = |domains: &[u32]| domains.iter().all(|domain| domain.count_ones() == 1);
+    let mut boxes = Vec::new();
+    every_try(book, domains, &mut boxes);
+    let first = boxes.iter().position(|settled| is_set(settled));
+    first.map_or(boxes.len(), |before| before + 1) as u32
 }
 
 /// Numbers from a seed: a step of a linear congruence, its upper bits.
@@ -129,6 +166,7 @@ fn all_give_what_the_definitions_say() {
     let [mut none, mut lowest, mut higher] = [0; 3];
     let [mut short, mut kept_by_short, mut found_by_short] = [0; 3];
     let [mut two_open, mut one_missing, mut more_missing] = [0; 3];
+    let (mut tried, mut most_tries) = (0, 0);
     for case in 0..30_000 {
         let book = numbers.book();
         let mut allowed = Vec::new();
@@ -140,8 +178,25 @@ fn all_give_what_the_definitions_say() {
         let union = union_of_sound_boxes(&book, &allowed);
         assert_eq!(domains, union, "case {case}: {book:?}");
         let first = by_trying_all(&book, &domains);
-        assert_eq!(by_search(&book, &domains), first, "case {case}: {book:?}");
-        assert_eq!(finish(&book, &domains), first, "case {case}");
+        let needed = tries_needed(&book, &domains);
+        let ended = (first.clone(), needed);
+        for limit in [needed, needed + 1, MOST_TRIES] {
+            assert_eq!(
+                finish(&book, &domains, limit),
+                ended,
+                "case {case}: {book:?}"
+            );
+        }
+        for limit in 0..needed {
+            let stopped = (Outcome::Stopped, limit);
+            assert_eq!(
+                finish(&book, &domains, limit),
+                stopped,
+                "case {case}: {book:?}"
+            );
+        }
+        most_tries = most_tries.max(needed);
+        tried += usize::from(needed > 1);
         // Settling loses no full set, so the same one is first among all values.
         assert_eq!(by_trying_all(&book, &allowed), first, "case {case}");
         for sheet in &book.sheets {
@@ -191,6 +246,8 @@ fn all_give_what_the_definitions_say() {
         "sheets: {two_open} done with two columns open or more, {one_missing} one choice short, \
          {more_missing} more"
     );
+    println!("{tried} with two tries or more, up to {most_tries}");
+    assert!(tried > 2_000 && most_tries > 4);
     assert!(two_open > 1_000 && one_missing > 1_000 && more_missing > 1_000);
     assert!(dead > 5_000 && struck > 5_000 && kept > 5_000);
     assert!(short > 5_000 && kept_by_short > 2_000 && found_by_short > 2_000);
@@ -222,8 +279,8 @@ fn the_lowest_value_leads_nowhere() {
     let found = Outcome::Found(vec![1, 1, 0, 0]);
     assert_eq!(by_trying_all(&book, &domains), found);
     // 0 in column 0 leads nowhere at once, and 1 leaves one value of each other column.
-    for (mut tries, ended) in [(0, None), (1, None), (2, Some(found))] {
-        assert_eq!(search(&book, &domains, &mut tries), ended);
+    for (most, ended) in [(0, None), (1, None), (2, Some((found.clone(), 2)))] {
+        assert_eq!(search(&book, &domains, most), ended);
     }
 }
 
@@ -236,25 +293,26 @@ fn column_0_counts_first() {
     assert_eq!(domains, [3, 7, 2]);
     let found = Outcome::Found(vec![0, 1, 1]);
     assert_eq!(by_trying_all(&book, &domains), found);
-    assert_eq!(by_search(&book, &domains), found);
+    // 0 in column 0, then 1 in column 1; column 2 is single.
+    assert_eq!(finish(&book, &domains, 9), (found, 2));
 }
 
 /// Each row of sheet 0 with each of sheet 1 that has the same motor, and no other.
 #[test]
 fn the_full_sets_of_harbour() {
     let mut sets = one_of_each(&[vec![0, 1, 2], vec![0, 1], vec![0, 1]]);
-    assert_eq!(sets.len() as u128, sets_within(&[7, 3, 3]));
     sets.retain(|set| is_full(&described_harbour(), set));
     let full = ["000", "001", "100", "101", "111", "211"];
     let digits = |set: &str| set.bytes().map(|digit| digit - b'0').collect();
     assert_eq!(sets, full.map(digits) as [Vec<u8>; 6]);
-    assert_eq!(sets_within(&[!0; 16]), 1 << 80);
-    assert_eq!(sets_within(&[0, 0]), 0);
 }
 
-/// Sixteen columns of 32 values and no sheet: no set need be passed over.
+/// Sixteen columns of 32 values and no sheet: no set need be passed over. Five columns are single.
 #[test]
 fn the_most_sets() {
-    let found = finish(&described(&[32; 16], &[]), &[!0, 2, 12].repeat(6)[..16]);
-    assert_eq!(found, Outcome::Found([0, 1, 2].repeat(6)[..16].to_vec()));
+    let domains = &[!0, 2, 12].repeat(6)[..16];
+    let found = Outcome::Found([0, 1, 2].repeat(6)[..16].to_vec());
+    let book = described(&[32; 16], &[]);
+    assert_eq!(finish(&book, domains, 11), (found, 11));
+    assert_eq!(finish(&book, domains, 10), (Outcome::Stopped, 10));
 }

@@ -113,8 +113,8 @@ fn a_sheet_of_short_rows_alone() {
     assert_eq!(closure(&book, &[2, 7]), [2, 4]);
     assert_eq!(closure(&book, &[3, 3]), [1, 3]);
     assert_eq!(closure(&book, &[2, 3]), [0, 0]);
-    assert_eq!(finish(&book, &[3, 7]), Outcome::Found(vec![0, 0]));
-    assert_eq!(finish(&book, &[2, 4]), Outcome::Found(vec![1, 2]));
+    assert_eq!(finish(&book, &[3, 7], 9), (Outcome::Found(vec![0, 0]), 2));
+    assert_eq!(finish(&book, &[2, 4], 9), (Outcome::Found(vec![1, 2]), 0));
 }
 
 /// Of every width, with columns of 1 value and of 32: nothing is bound.
@@ -149,7 +149,7 @@ fn a_short_row_that_goes() {
     assert_eq!(closure(&book, &[2, 15]), [2, 8]);
     assert_eq!(closure(&book, &[2, 7]), [0, 0]);
     assert_eq!(closure(&book, &[3, 0]), [0, 0]);
-    assert_eq!(finish(&book, &[0, 0]), Outcome::None);
+    assert_eq!(finish(&book, &[0, 0], 9), (Outcome::None, 0));
     let all = described(&[2, 4], &[(&[0, 1], &[&[ANY, ANY]]), (&[0], &[])]);
     assert_eq!(opening(&all), [0, 0]);
 }
@@ -159,13 +159,15 @@ fn a_short_row_that_goes() {
 fn the_first_full_set_by_short_rows() {
     let rows: &[&[u8]] = &[&[2, 0], &[ANY, 3]];
     let book = described(&[4, 4], &[(&[0, 1], rows)]);
-    assert_eq!(finish(&book, &[15, 9]), Outcome::Found(vec![0, 3]));
-    assert_eq!(finish(&book, &[12, 9]), Outcome::Found(vec![2, 0]));
+    assert_eq!(finish(&book, &[15, 9], 9), (Outcome::Found(vec![0, 3]), 1));
+    assert_eq!(finish(&book, &[12, 9], 9), (Outcome::Found(vec![2, 0]), 2));
     let many: Vec<(&[u8], &[&[u8]])> = vec![(&[0, 15], rows), (&[3, 7, 15], &[&[ANY, 2, ANY]])];
     let book = described(&[4; 16], &many);
     let mut first = vec![0; 16];
     (first[7], first[15]) = (2, 3);
-    assert_eq!(finish(&book, &opening(&book)), Outcome::Found(first));
+    // Columns 7 and 15 are single before their turn.
+    let found = (Outcome::Found(first), 14);
+    assert_eq!(finish(&book, &opening(&book), 14), found);
 }
 
 /// By hand, and how many: one for each way to take the values.

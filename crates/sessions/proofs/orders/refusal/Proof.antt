@@ -38,8 +38,9 @@ returns-4 c s d L h =
 
 returns-5 : tie.Need-returns-5
 returns-5 c s d L h =
-    let i = c .before .before .before .before in
-    sym (refusal-finish _ L _ (c .if5 .taken) ∙ rw (rw (c .if5 .taken) at (looked (i .before) (i .if1 .left))) refl)
+    let i = c .before .before .before .before .before in
+    let k = c .before .if5 .taken in
+    c .refused-finish .ensures ∙ sym (refusal-finish _ L _ k ∙ rw (rw k at (looked (i .before) (i .if1 .left))) refl)
 
 returns-6 : tie.Need-returns-6
 returns-6 c s d L h =
@@ -48,4 +49,4 @@ returns-6 c s d L h =
 pub refusal-spec : {M : Type 1} → statement M
 refusal-spec =
     tie.close
-    (tie.spec (search needs) (λ c κs. search needs) (λ c κs. search needs) returns (λ c κs. search needs) returns-2 (λ c κs. search needs) returns-3 (λ c κs. search needs) returns-4 returns-5 returns-6)
+    (tie.spec (search needs) (λ c κs. search needs) (λ c κs. search needs) returns (λ c κs. search needs) returns-2 (λ c κs. search needs) returns-3 (λ c κs. search needs) returns-4 (λ c κs. search needs) returns-5 returns-6)

@@ -19,7 +19,7 @@ use Rattle.model.specs.Solutions.{Solution}
 use Rattle.model.specs.Search.{searched}
 use Rattle.model.specs.Orders.{kind, tryLimit, Entry, depth as depthOf, refusal, AcceptedFinish, push, trailFrom, domains}
 use Rattle.model.specs.Answers.{statusOf, doneOf, Answer, Outcome, stateOnly, outcomeMasks, limited, outcome, showing, answer, lastFrom, domainBytes, answerBytes, domainIn}
-use Rattle.model.proofs.Tests.{below, either, getD-tab, getD-tab-out}
+use Rattle.model.proofs.Tests.{below, either, tab-zeros}
 use Rattle.model.proofs.Stores.{in-store}
 use Rattle.model.proofs.Search.{getD-map, searched-found}
 use Rattle.model.proofs.Outcomes.{LimitedTo, is-found, is-none, is-stopped, limited-or, limited-tries}
@@ -112,11 +112,7 @@ module _ (b : Book) (p : WellFormed b) (L : List Entry) where
       zero-small = omega arith
 
       none-small : getD (tab C (λ c. 0)) c 0 < 2 ^ 32
-      none-small = at (below c C)
-        where
-          at : (c < C) ⊎ (C ≤ c) → getD (tab C (λ c. 0)) c 0 < 2 ^ 32
-          at (inl l) = rw (getD-tab {A = ℕ} 0 C (λ c. 0) c l) zero-small
-          at (inr l) = rw (getD-tab-out C (λ c. 0) c l) zero-small
+      none-small = rw (tab-zeros C c) zero-small
 
       some-small : (x : List ℕ) → Solution b D x → (c < length x) ⊎ (length x ≤ c) → getD (map (λ v. 2 ^ v) x) c 0 < 2 ^ 32
       some-small x f (inl l) =

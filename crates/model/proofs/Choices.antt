@@ -209,7 +209,7 @@ first-found (m ∷ B) h p x e = go (firstOf-some 32 (step m B p) x e) (λ q y r.
             subst⁻¹ (First (m ∷ B) p) (r .2) (first-cons m B h p (f .value) (r .0) q (ih _ (r .0) (r .1)) (f .before))
 
 -- two lists of one length are equal, or one of them is lower, and not both
-pub lower-not : (x y : List ℕ) → Lower x y → Lower y x → ⊥
+lower-not : (x y : List ℕ) → Lower x y → Lower y x → ⊥
 lower-not x y a b = go (below (a .column) (b .column)) (below (b .column) (a .column))
   where
     go : (a .column < b .column) ⊎ (b .column ≤ a .column) → (b .column < a .column) ⊎ (a .column ≤ b .column) → ⊥
@@ -220,14 +220,15 @@ lower-not x y a b = go (below (a .column) (b .column)) (below (b .column) (a .co
         let l : getD x (b .column) 0 < getD y (b .column) 0 = rw e at (a .less) in
         omega (arith, b .less)
 
+-- each is the other or lower: they are one
+pub lower-same : {x y : List ℕ} → (x ≡ y) ⊎ Lower x y → (y ≡ x) ⊎ Lower y x → x ≡ y
+lower-same (inl e) k = e
+lower-same (inr a) (inl e) = sym e
+lower-same {x} {y} (inr a) (inr k) = absurd (lower-not x y a k)
+
 -- there is one first choice
 pub first-unique : (B : List ℕ) (p : List ℕ → Bool) (x y : List ℕ) → First B p x → First B p y → x ≡ y
-first-unique B p x y f g = go (f .least y (g .takes) (g .passes)) (g .least x (f .takes) (f .passes))
-  where
-    go : (x ≡ y) ⊎ Lower x y → (y ≡ x) ⊎ Lower y x → x ≡ y
-    go (inl e) b = e
-    go (inr a) (inl e) = sym e
-    go (inr a) (inr b) = absurd (lower-not x y a b)
+first-unique B p x y f g = lower-same (f .least y (g .takes) (g .passes)) (g .least x (f .takes) (f .passes))
 
 module _ (B : List ℕ) (h : Small B) (p : List ℕ → Bool) where
   -- found: the first choice that passes

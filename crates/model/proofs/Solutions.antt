@@ -15,7 +15,7 @@ use Rattle.model.specs.Books.{Sheet, Book, columnCount, allows, WellForm
 use Rattle.model.specs.Solutions.{Solution, FirstSolution, NoSolution}
 use Rattle.model.proofs.Tests.{allIn-e, allIn-i}
 use Rattle.model.proofs.Stores.{has-i, has-e, in-store}
-use Rattle.model.proofs.Choices.{First, firstChoice, lower-not, opt, first-some-iff, first-none-iff, getD-pick, length-pick, pick-i}
+use Rattle.model.proofs.Choices.{First, firstChoice, lower-same, opt, first-some-iff, first-none-iff, getD-pick, length-pick, pick-i}
 use Rattle.model.proofs.Books.{stays-iff}
 
 -- ---- the first solution, by a look at every choice
@@ -81,12 +81,7 @@ solution-mono b A B x w f = record { size = f .size; takes = λ c l. w .at c (ge
 
 -- there is one first
 pub first-only : (b : Book) (B x y : List ℕ) → FirstSolution b B x → FirstSolution b B y → x ≡ y
-first-only b B x y f g = go (f .least y (g .solution)) (g .least x (f .solution))
-  where
-    go : (x ≡ y) ⊎ Lower x y → (y ≡ x) ⊎ Lower y x → x ≡ y
-    go (inl e) k = e
-    go (inr a) (inl e) = sym e
-    go (inr a) (inr k) = absurd (lower-not x y a k)
+first-only b B x y f g = lower-same (f .least y (g .solution)) (g .least x (f .solution))
 
 -- the first depends on the values of the store alone
 pub first-same : (b : Book) (A B x : List ℕ) → Within A B → Within B A → FirstSolution b A x → FirstSolution b B x

@@ -365,3 +365,11 @@ zeros-at n c = go (below c n)
     go : (c < n) ⊎ (n ≤ c) → _≡_ {A = ℕ} (getD (replicate n 0) c 0) 0
     go (inl l) = getD-replicate n c 0 0 l
     go (inr l) = List·getD-eq-default (replicate n 0) 0 (omega (arith, length-replicate {A = ℕ} n 0))
+
+-- the same as a table: the masks of no solution
+pub tab-zeros : (n c : ℕ) → _≡_ {A = ℕ} (getD (tab n (λ i. 0)) c 0) 0
+tab-zeros n c = go (below c n)
+  where
+    go : (c < n) ⊎ (n ≤ c) → _≡_ {A = ℕ} (getD (tab n (λ i. 0)) c 0) 0
+    go (inl l) = getD-tab {A = ℕ} 0 n (λ i. 0) c l
+    go (inr l) = getD-tab-out n (λ i. 0) c l

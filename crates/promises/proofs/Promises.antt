@@ -25,7 +25,7 @@ use Rattle.model.proofs.Answers.{Tells, answer-tells, bytes-0, bytes-1, bytes-2
 use Rattle.model.proofs.Demands.{claim1, claim2, doneExactly}
 use Rattle.model.proofs.Refusals.{push-finish, push-refused}
 use Rattle.model.proofs.Search.{getD-map}
-use Rattle.model.proofs.Tests.{below, either, getD-tab, getD-tab-out, sum-last, sum-same}
+use Rattle.model.proofs.Tests.{either, sum-last, sum-same, tab-zeros}
 use Rattle.model.proofs.Trails.{accepted-snoc, domains-store, trail-snoc}
 use Rattle.book.specs.Decoding.{bookOf}
 use Rattle.book.proofs.Decoding.{accepted-right, right-formed}
@@ -70,11 +70,7 @@ module _ (B : Book) (p : WellFormed B) (L : List Entry) (a : Answer) where
 
     -- no column of none
     zero-masks : a .shown ≡ tab (columnCount B) (λ c. 0) → (c : ℕ) → getD (a .shown) c 0 ≡ 0
-    zero-masks e c = ap (λ (D : List ℕ). getD D c 0) e ∙ go (below c (columnCount B))
-      where
-        go : (c < columnCount B) ⊎ (columnCount B ≤ c) → _≡_ {A = ℕ} (getD (tab (columnCount B) (λ c. 0)) c 0) 0
-        go (inl l) = getD-tab {A = ℕ} 0 (columnCount B) (λ c. 0) c l
-        go (inr l) = getD-tab-out (columnCount B) (λ c. 0) c l
+    zero-masks e c = ap (λ (D : List ℕ). getD D c 0) e ∙ tab-zeros (columnCount B) c
 
     reads-first : ShowsFirst B L a → AnswerShowsFirst B L (answerBytes a)
     reads-first s = record {

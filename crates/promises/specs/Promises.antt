@@ -155,7 +155,7 @@ module _ (b x y : List ℕ) where
     pub wider-first : NarrowerEnd → (v : List ℕ) → Solution (bookOf b) (domains (bookOf b) (standingAfter b x)) v
         → (w : List ℕ) × (z : List ℕ) × FirstSolution (bookOf b) (domains (bookOf b) (standingAfter b x)) w
         × FirstSolution (bookOf b) (domains (bookOf b) (standingAfter b y)) z × ((z ≡ w) ⊎ Lower z w)
-    -- and so by what two finishes show, "since the wider one may stop first" where it isn't stopped
+    -- and so by what two finishes show, where the wider's isn't stopped, "since the wider one may stop first"
     pub wider-found : NarrowerEnd → (f g a d : List ℕ) → AcceptedNext b x f a → AcceptedNext b y g d → byteAt a 3 ≡ 1 → (byteAt d 3 ≡ 3 → ⊥)
         → (byteAt d 3 ≡ 1) × ((setIn b d ≡ setIn b a) ⊎ Lower (setIn b d) (setIn b a))
 

@@ -24,7 +24,7 @@ use Rattle.model.proofs.Masks.{bit-and, bit-pow, bit-pow-only, mask-ext, size-z
 use Rattle.model.proofs.Outcomes.{LimitedTo, is-found, is-none, is-stopped, limited-enough, limited-or, limited-stopped, unlimited-none}
 use Rattle.model.proofs.Search.{after-fewer, after-store, assigned-masks, else-found, else-more, else-none, following-0, many-column, open-at, open-none, searched-empty, searched-open, searched-single, single-column, tryEach-lowest, tryEach-none, tryEach-same}
 use Rattle.model.proofs.Stores.{empty-unfilled, filled-e, filled-i, in-store}
-use Rattle.model.proofs.Tests.{and-false, and-i, and-r, and-true, below, either, getD-tab, getD-tab-out, same-test, zeros-at}
+use Rattle.model.proofs.Tests.{and-false, and-i, and-r, and-true, below, either, same-test, zeros-at, tab-zeros}
 use Rattle.model.proofs.Trails.{domains-store, allowed-store}
 use Rattle.model.proofs.Books.{closed-or-empty}
 use Rattle.book.specs.Decoding.{bookOf}
@@ -183,11 +183,7 @@ reaches-as {b} {n} {f = f} e s = record { shows = λ D. subst (λ (i : Searched)
 -- no solution is shown: none, or stopped
 module _ (b : List ℕ) {k t : ℕ} {f : Held} (s : (f .number ≡ k) × (f .tries ≡ t) × (f .masks ≡ replicate 16 0)) where
   no-masks : (c : ℕ) → c < 16 → getD (f .masks) c 0 ≡ getD (tab (columnCount (bookOf b)) (λ c. 0)) c 0
-  no-masks c l = ap (λ (M : List ℕ). getD M c 0) (s .2) ∙ zeros-at 16 c ∙ go (below c (columnCount (bookOf b)))
-    where
-      go : (c < columnCount (bookOf b)) ⊎ (columnCount (bookOf b) ≤ c) → _≡_ {A = ℕ} 0 (getD (tab (columnCount (bookOf b)) (λ c. 0)) c 0)
-      go (inl q) = sym (getD-tab 0 (columnCount (bookOf b)) (λ c. 0) c q)
-      go (inr q) = sym (getD-tab-out (columnCount (bookOf b)) (λ c. 0) c q)
+  no-masks c l = ap (λ (M : List ℕ). getD M c 0) (s .2) ∙ zeros-at 16 c ∙ sym (tab-zeros (columnCount (bookOf b)) c)
 
   pub none-reached : {n m : ℕ} {g : Searched} → k ≡ 2 → g .solution ≡ none → t ≡ m + g .tries → t ≤ n → Reaches b n m g f
   none-reached {n} {m} {g} z e q l =

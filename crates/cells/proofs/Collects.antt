@@ -4,22 +4,20 @@ use mathlib.Core.Path.{_∙_, _≡_, ap, refl, sym}
 use mathlib.Core.Bool.{Bool, _&&_, _||_, false, false≢true, not, or-false, true}
 use mathlib.Core.Logic.{_⊎_, inl, inr, ⊎-elim}
 use mathlib.Core.List.{List, [], _∷_}
-use Prim.Native.Nat.{_%_, _*_, _+_, _-_, _/_, _<_, _^_, _≤_, suc, zero, ℕ}
-use native.Mathlib.Nat.{div-le-self, lt-of-le-of-lt}
+use Prim.Native.Nat.{_+_, _-_, _<_, _^_, _≤_, suc, zero, ℕ}
 use native.Mathlib.Omega.{arith}
 use lib.Arith.{lt-of-le-ne}
-use lib.Bits.{bitAnd, bitOr, or-lt}
-use lib.Count.{trailingZeros}
+use lib.Bits.{bitOr, or-lt}
+use lib.Count.{trailing-le, trailingZeros}
 use lib.Dec.{eqb, ltb}
 use lib.ListN.{getD, set}
-use borrow.Author.Tests.{eq-eqb, eqb-false, eqb-true, le-ltb, lt-ltb, ltb-true, ne-eqb, not-false}
+use borrow.Author.Tests.{eq-eqb, eqb-false, eqb-true, le-ltb, lt-ltb, ne-eqb, not-false}
 use Rattle.model.specs.Masks.{Cleared, bit}
-use Rattle.model.proofs.Masks.{bit-and, bit-high, bit-of-zero, bit-or, bit-pow, bit-pow-only, lowest-under, ones60, ones64}
-use Rattle.model.proofs.Tests.{and-l, and-r, and-true, below, either, or-e, or-l, or-r}
-use Rattle.fields.specs.Bytes.{byteAt}
-use Rattle.cells.specs.Cells.{Gathered, GatheredNear, GatheredOf, Joined, NearRows, PastRun, Readable, RunOf, SmallSets, cellAt, fourOf, nearPlace}
-use Rattle.cells.proofs.Ones.{complement, ones-shifted}
-use Rattle.cells.proofs.Walks.{Part, far-bits, four-all, near-bits, near-same, part-cleared, split}
+use Rattle.model.proofs.Masks.{bit-of-zero, bit-or, bit-pow, bit-pow-only, lowest-under, ones64}
+use Rattle.model.proofs.Tests.{and-true, below, either, or-e, or-l, or-r}
+use Rattle.cells.specs.Cells.{GatheredOf, Joined, PastRows, RunOf, SmallSets, fourOf}
+use Rattle.cells.proofs.Ones.{complement}
+use Rattle.cells.proofs.Walks.{Part, four-all, part-cleared, split}
 
 one-row : (cell : ℕ → ℕ → ℕ) (t : ℕ) {g h : List ℕ} → ((j : ℕ) → j < 4 → getD h j 0 ≡ bitOr (getD g j 0) (2 ^ cell t j)) → GatheredOf cell (λ k. eqb k t) g h
 one-row cell t {g} {h} e = record {
@@ -190,74 +188,18 @@ run-more n k = go (below k n) (either (eqb k n))
     go (inr l) (inr e) = rw (le-ltb k n l, e) (le-ltb k (n + 1) (let z : n < k = lt-of-le-ne l (λ q. eqb-false k n e (sym q)) in omega arith))
 
 -- a run, and the rows past it
-pub run-joined : {word n rest : ℕ} → RunOf word n → PastRun word n rest → (k : ℕ) → bit k word ≡ (ltb k n || bit k rest)
+pub run-joined : {word n rest : ℕ} → RunOf word n → PastRows word n rest → (k : ℕ) → bit k word ≡ (ltb k n || bit k rest)
 run-joined {word} {n} {rest} r p k = go (below k n)
   where
     go : (k < n) ⊎ (n ≤ k) → bit k word ≡ (ltb k n || bit k rest)
     go (inl l) = rw (lt-ltb k n l) (r .at k l)
     go (inr l) = rw (p .at k, le-ltb k n l) (sym (and-true (bit k word)))
 
-pub past-run : (word n : ℕ) → word < 2 ^ 64 → n ≤ 64 → PastRun word n (bitAnd word (ones64 - ones64 / 2 ^ (64 - n)))
-past-run word n fits l = record { at = λ k. bit-and k word _ ∙ go k (below k 64) }
+pub run-of : (word n : ℕ) → word < 2 ^ 64 → n ≡ trailingZeros 64 (ones64 - word) → (n ≤ 64) × RunOf word n
+run-of word n l e = (most, record { at = λ k m. not-false (bit k word) (clear k (rw e at m) (omega (arith, most))) })
   where
-    go : (k : ℕ) → (k < 64) ⊎ (64 ≤ k) → (bit k word && bit k (ones64 - ones64 / 2 ^ (64 - n))) ≡ (bit k word && not (ltb k n))
-    go k (inl m) =
-        ap (λ (t : Bool). bit k word && t)
-        (complement 64 (ones64 / 2 ^ (64 - n)) k (lt-of-le-of-lt (div-le-self ones64 (2 ^ (64 - n))) (omega arith)) m
-        ∙ ap not (ones-shifted 64 n k l))
-    go k (inr m) = let z : bit k word ≡ false = bit-high 64 word k fits m in rw z refl
+    most : n ≤ 64
+    most = rw e (trailing-le 64 (ones64 - word))
 
-pub run-of : (word n : ℕ) → word < 2 ^ 60 → n ≡ trailingZeros 64 (ones64 - word) → (n ≤ 60) × RunOf word n
-run-of word n l e = (few (below 60 n), record { at = λ k m. set k (below k 64) (rw e at m) })
-  where
     clear : (k : ℕ) → k < trailingZeros 64 (ones64 - word) → k < 64 → not (bit k word) ≡ false
-    clear k m q = sym (complement 64 word k (omega arith) q) ∙ lowest-under 64 (ones64 - word) k m
-
-    few : (60 < n) ⊎ (n ≤ 60) → n ≤ 60
-    few (inr m) = m
-    few (inl m) =
-        absurd (false≢true (sym (clear 60 (rw e at m) (omega arith)) ∙ ap not (bit-high 60 word 60 l (omega arith))))
-
-    set : (k : ℕ) → (k < 64) ⊎ (64 ≤ k) → k < trailingZeros 64 (ones64 - word) → bit k word ≡ true
-    set k (inl q) m = not-false (bit k word) (clear k m q)
-    set k (inr q) m = absurd (omega (arith, few (below 60 n)))
-
--- ---- the whole word
-module _ (b : List ℕ) (begin w word : ℕ) (small : w < 8) (fits : word < 2 ^ 64) where
-  pub near-rows : Readable b begin (64 * w) word → NearRows b (nearPlace begin w) (bitAnd word ones60)
-  near-rows h = record {
-    at = λ k e.
-        let z = sym (near-bits word k) ∙ e in
-        let p = and-l (bit k word) _ z in
-        let l = ltb-true k 60 (and-r (bit k word) _ z) in
-        omega (arith, h .there k p, near-same begin w k 3 small l);
-  }
-
-  to-far : (k j : ℕ) → bit k (bitAnd word ones60) ≡ true → byteAt b (nearPlace begin w + 4 * k + j) % 32 ≡ cellAt b begin (64 * w + k) j % 32
-  to-far k j e =
-      let l = ltb-true k 60 (and-r (bit k word) _ (sym (near-bits word k) ∙ e)) in
-      ap (λ (i : ℕ). byteAt b i % 32) (near-same begin w k j small l)
-
-  pub gathered-near : {f g : List ℕ} → bitAnd word ones60 ≡ word
-      → GatheredNear b (nearPlace begin w) (bitAnd word ones60) f g → Gathered b begin (64 * w) word f g
-  gathered-near e h =
-      of-same (λ k j. cellAt b begin (64 * w + k) j % 32) (λ k. ap (bit k) e)
-      (of-cells (λ k j. byteAt b (nearPlace begin w + 4 * k + j) % 32) (λ k j. cellAt b begin (64 * w + k) j % 32) to-far h)
-
-  pub gathered-both : {f g h : List ℕ} → GatheredNear b (nearPlace begin w) (bitAnd word ones60) f g
-      → Gathered b begin (64 * w) (bitAnd word (ones64 - ones60)) g h → Gathered b begin (64 * w) word f h
-  gathered-both p q =
-      of-join (λ k j. cellAt b begin (64 * w + k) j % 32) (λ k. both k (below k 64))
-      (of-cells (λ k j. byteAt b (nearPlace begin w + 4 * k + j) % 32) (λ k j. cellAt b begin (64 * w + k) j % 32) to-far p) q
-    where
-      both : (k : ℕ) → (k < 64) ⊎ (64 ≤ k)
-          → bit k word ≡ (bit k (bitAnd word ones60) || bit k (bitAnd word (ones64 - ones60)))
-      both k (inl l) = rw (near-bits word k, far-bits word k l) (cases (bit k word) (ltb k 60))
-        where
-          cases : (x y : Bool) → x ≡ ((x && y) || (x && not y))
-          cases true true = refl
-          cases true false = refl
-          cases false y = refl
-      both k (inr l) =
-          let z : bit k word ≡ false = bit-high 64 word k fits l in
-          rw (near-bits word k, bit-and k word (ones64 - ones60), z) refl
+    clear k m q = sym (complement 64 word k l q) ∙ lowest-under 64 (ones64 - word) k m

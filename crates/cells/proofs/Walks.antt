@@ -1,23 +1,22 @@
 -- Laws of a walk over the places of a word, lowest first. Assumes nothing.
 use mathlib.Core.Path.{_∙_, _≡_, ap, refl, sym}
-use mathlib.Core.Bool.{Bool, _&&_, _||_, cond, false, false≢true, not, or-false, true}
+use mathlib.Core.Bool.{Bool, _&&_, _||_, cond, false, false≢true, or-false, true}
 use mathlib.Core.Logic.{_⊎_, inl, inr}
 use mathlib.Core.List.{List}
 use Prim.Native.Nat.{_%_, _*_, _+_, _-_, _/_, _<_, _^_, _≤_, suc, zero, ℕ}
-use native.Mathlib.Nat.{mod-eq-of-lt, mod-lt, one-mul, zero-mul}
+use native.Mathlib.Nat.{mod-eq-of-lt, one-mul, zero-mul}
 use native.Mathlib.Omega.{arith}
-use lib.Bits.{and-le-r, bitAnd, bitOr}
-use lib.Dec.{eqb, lit<, ltb}
+use lib.Bits.{bitAnd, bitOr}
+use lib.Dec.{eqb, ltb}
 use lib.Pow.{pow-lt}
-use borrow.Author.Tests.{eqb-false, eqb-true, le-ltb, lt-ltb, ltb-true, ne-eqb}
+use borrow.Author.Tests.{eqb-false, eqb-true, le-ltb, lt-ltb, ne-eqb}
 use Rattle.model.specs.Books.{inDomain, isAny}
 use Rattle.model.specs.Masks.{Cleared, bit, maskOf}
 use Rattle.model.specs.Tests.{oneIf}
-use Rattle.model.proofs.Masks.{bit-and, bit-high, bit-maskOf, bit-of-zero, bit-or, bit-pow, bit-pow-other, maskOf-lt, maskOf-same, ones60, ones64}
-use Rattle.model.proofs.Tests.{and-false, and-l, and-r, and-true, below, either, positive}
-use Rattle.fields.specs.Bytes.{byteAt}
-use Rattle.cells.specs.Cells.{AllNear, IsCell, Kept, KeptAny, KeptBy, KeptNear, NearReadable, Readable, WithAny, cellAt, cellPlace, nearPlace}
-use Rattle.cells.proofs.Ones.{complement, low-ones}
+use Rattle.model.proofs.Masks.{bit-and, bit-high, bit-maskOf, bit-maskOf-out, bit-of-zero, bit-or, bit-pow, bit-pow-other, maskOf-lt, maskOf-same}
+use Rattle.model.proofs.Tests.{and-false, and-true, below, either, positive}
+use Rattle.cells.specs.Cells.{IsCell, Kept, KeptAny, KeptBy, Readable, WithAny, cellAt}
+use Rattle.cells.proofs.Ones.{low-ones}
 
 pub four-all : (P : ℕ → Type 0) → P 0 → P 1 → P 2 → P 3 → (j : ℕ) → j < 4 → P j
 four-all P p q r s zero l = p
@@ -32,6 +31,19 @@ pub record Part (a b : ℕ) : Type 0 where
 
 pub whole : (a : ℕ) → Part a a
 whole a = record { at = λ k e. e }
+
+-- word has the places of x and those of y
+pub record TwoParts (word x y : ℕ) : Type 0 where
+  pub at : (k : ℕ) → bit k word ≡ (bit k x || bit k y)
+
+pub parts-swap : {word x y : ℕ} → TwoParts word x y → TwoParts word y x
+parts-swap {word} {x} {y} p = record { at = λ k. p .at k ∙ swap (bit k x) (bit k y) }
+  where
+    swap : (s t : Bool) → (s || t) ≡ (t || s)
+    swap true true = refl
+    swap true false = refl
+    swap false true = refl
+    swap false false = refl
 
 -- by whether a place is the one that was cleared
 pub split : {P : Type 0} (k t : ℕ) → (k ≡ t → P) → ((k ≡ t → ⊥) → P) → P
@@ -92,59 +104,41 @@ walked-turn {p} {word} {left} {keep} {rest} {h} {t} w c l q e =
           (λ n. rw (bit-or, digit-off h t k l q n, c .rest k n, or-false) (w .at k));
     }
 
--- the tests of pass 1: the cell of row k of the word is one of the places m
-unfoldable pub farIn : List ℕ → ℕ → ℕ → ℕ → ℕ → ℕ → Bool
-farIn b begin from j m k = bit (cellAt b begin (from + k) j % 64) m
+-- the test of pass 1: the cell of row k of the word is one of the places m
+unfoldable pub cellIn : List ℕ → ℕ → ℕ → ℕ → ℕ → ℕ → Bool
+cellIn b begin from j m k = bit (cellAt b begin (from + k) j % 64) m
 
-unfoldable pub nearIn : List ℕ → ℕ → ℕ → ℕ → Bool
-nearIn b base m k = bit (byteAt b (base + 4 * k) % 64) m
+pub kept-end : {b : List ℕ} {begin from j m word keep : ℕ} → Walked (cellIn b begin from j m) word 0 keep → KeptBy b begin from j m word keep
+unfolding cellIn
+kept-end w = record { at = walked-end w }
 
-pub far-end : {b : List ℕ} {begin from j m word keep : ℕ} → Walked (farIn b begin from j m) word 0 keep → KeptBy b begin from j m word keep
-unfolding farIn
-far-end w = record { at = walked-end w }
+-- the code's numbers: x is that cell, and h says whether m has its place
+pub cell-in : (b : List ℕ) (begin from j m t x h : ℕ) → x ≡ cellAt b begin (from + t) j → h ≡ m / 2 ^ (x % 64) % 2 → cellIn b begin from j m t ≡ eqb h 1
+unfolding cellIn bit
+cell-in b begin from j m t x h e f = rw (f, ← e)
 
-pub near-end : {b : List ℕ} {base m word keep : ℕ} → Walked (nearIn b base m) word 0 keep → KeptNear b base m word keep
-unfolding nearIn
-near-end w = record { at = walked-end w }
-
--- the code's numbers: v is that place, and h says whether m has it
-pub value-in : (m v w h : ℕ) → v ≡ w → h ≡ m / 2 ^ v % 2 → bit w m ≡ eqb h 1
-unfolding bit
-value-in m v w h e f = rw (f, ← e)
-
-pub far-in : (b : List ℕ) (begin from j m t x h : ℕ) → x ≡ cellAt b begin (from + t) j → h ≡ m / 2 ^ (x % 64) % 2 → farIn b begin from j m t ≡ eqb h 1
-unfolding farIn
-far-in b begin from j m t x h e f = value-in m (x % 64) _ h (ap (λ (y : ℕ). y % 64) e) f
-
-pub near-in : (b : List ℕ) (base m t x h : ℕ) → x ≡ byteAt b (base + 4 * t) → h ≡ m / 2 ^ (x % 64) % 2 → nearIn b base m t ≡ eqb h 1
-unfolding nearIn
-near-in b base m t x h e f = value-in m (x % 64) _ h (ap (λ (y : ℕ). y % 64) e) f
-
--- ---- pass 1 over all 60 rows, from the last down
-unfoldable pub lastIn : List ℕ → ℕ → ℕ → ℕ → Bool
-lastIn b base d k = bit (byteAt b (base + 4 * k) % 64) d
-
+-- ---- pass 1 over the first 60 rows, from the last down
 -- the rows from k on have been looked at
-pub record AllFrom (b : List ℕ) (base d k keep : ℕ) : Type 0 where
+pub record AllFrom (b : List ℕ) (begin from j m k keep : ℕ) : Type 0 where
   pub most : k ≤ 60
-  pub is : keep ≡ maskOf (60 - k) (λ i. lastIn b base d (k + i))
+  pub is : keep ≡ maskOf (60 - k) (λ i. cellIn b begin from j m (k + i))
 
-pub all-start : (b : List ℕ) (base d : ℕ) → AllFrom b base d 60 0
+pub all-start : (b : List ℕ) (begin from j m : ℕ) → AllFrom b begin from j m 60 0
 unfolding maskOf
-all-start b base d = record { most = omega arith; is = refl }
+all-start b begin from j m = record { most = omega arith; is = refl }
 
-pub all-turn : (b : List ℕ) (base d k keep v h : ℕ) → AllFrom b base d k keep → 0 < k → v ≡ byteAt b (base + 4 * (k - 1)) % 64 → h ≡ d / 2 ^ v % 2
-    → AllFrom b base d (k - 1) (keep + keep + h)
-unfolding maskOf lastIn
-all-turn b base d k keep v h a l e f =
+pub all-turn : (b : List ℕ) (begin from j m k keep h : ℕ) → AllFrom b begin from j m k keep → 0 < k → cellIn b begin from j m (k - 1) ≡ eqb h 1 → h < 2
+    → AllFrom b begin from j m (k - 1) (keep + keep + h)
+unfolding maskOf
+all-turn b begin from j m k keep h a l e f =
     record {
       most = omega (arith, a .most);
       is =
           let n : 60 - (k - 1) ≡ suc (60 - k) = omega (arith, a .most) in
           let z : k - 1 + 0 ≡ k - 1 = omega arith in
-          let d0 : oneIf (lastIn b base d (k - 1 + 0)) ≡ h = ap (λ (i : ℕ). oneIf (lastIn b base d i)) z ∙ ap oneIf (value-in d v _ h e f) ∙ digit h (rw f (mod-lt (d / 2 ^ v) (lit< tt))) in
-          let rest : maskOf (60 - k) (λ i. lastIn b base d (k - 1 + suc i)) ≡ keep
-          = maskOf-same (60 - k) _ _ (λ i m. ap (lastIn b base d) (let q : k - 1 + suc i ≡ k + i = omega arith in q)) ∙ sym (a .is) in
+          let d0 : oneIf (cellIn b begin from j m (k - 1 + 0)) ≡ h = ap (λ (i : ℕ). oneIf (cellIn b begin from j m i)) z ∙ ap oneIf e ∙ digit h f in
+          let rest : maskOf (60 - k) (λ i. cellIn b begin from j m (k - 1 + suc i)) ≡ keep
+          = maskOf-same (60 - k) _ _ (λ i q. ap (cellIn b begin from j m) (let y : k - 1 + suc i ≡ k + i = omega arith in y)) ∙ sym (a .is) in
           rw n (omega (arith, d0, rest));
     }
   where
@@ -153,100 +147,41 @@ all-turn b base d k keep v h a l e f =
     digit (suc zero) q = refl
     digit (suc (suc h)) q = absurd (omega arith)
 
-pub all-fits : {b : List ℕ} {base d k keep : ℕ} → AllFrom b base d k keep → keep < 2 ^ (60 - k)
-all-fits {b} {base} {d} {k} {keep} a = rw (a .is) (maskOf-lt (60 - k) (λ i. lastIn b base d (k + i)))
+pub all-fits : {b : List ℕ} {begin from j m k keep : ℕ} → AllFrom b begin from j m k keep → keep < 2 ^ (60 - k)
+all-fits {b} {begin} {from} {j} {m} {k} {keep} a = rw (a .is) (maskOf-lt (60 - k) (λ i. cellIn b begin from j m (k + i)))
 
-pub all-end : {b : List ℕ} {base d k keep : ℕ} → k ≡ 0 → AllFrom b base d k keep → AllNear b base d keep
-unfolding lastIn
-all-end {b} {base} {d} {k} {keep} z a =
-    record {
-      at = λ i l.
-          let e : 0 + i ≡ i = omega arith in
-          let n : 60 - k ≡ 60 = omega arith in
-          ap (bit i) (rw (n, z) at (a .is))
-          ∙ bit-maskOf 60 (λ i. lastIn b base d (0 + i)) i l
-          ∙ ap (λ (q : ℕ). bit (byteAt b (base + 4 * q) % 64) d) e;
-    }
-
--- of all rows those that are set
-pub all-kept : {b : List ℕ} {base m word a : ℕ} → NearReadable b base word → AllNear b base m a → KeptNear b base m word (bitAnd a word)
-all-kept {b} {base} {m} {word} {a} r h = record { at = λ k. bit-and k a word ∙ go k (either (bit k word)) }
+pub all-end : {b : List ℕ} {begin from j m k keep : ℕ} → k ≡ 0 → AllFrom b begin from j m k keep → KeptBy b begin from j m (2 ^ 60 - 1) keep
+unfolding cellIn
+all-end {b} {begin} {from} {j} {m} {k} {keep} z a = record { at = λ i. ap (bit i) whole60 ∙ go i (below i 60) }
   where
-    go : (k : ℕ) → (bit k word ≡ true) ⊎ (bit k word ≡ false) → (bit k a && bit k word) ≡ (bit k word && bit (byteAt b (base + 4 * k) % 64) m)
-    go k (inl e) = rw (e, and-true (bit k a)) (h .at k (r .few k e))
+    whole60 : keep ≡ maskOf 60 (λ i. cellIn b begin from j m (0 + i))
+    whole60 = let n : 60 - k ≡ 60 = omega arith in rw (n, z) at (a .is)
+
+    go : (i : ℕ) → (i < 60) ⊎ (60 ≤ i)
+        → bit i (maskOf 60 (λ i. cellIn b begin from j m (0 + i))) ≡ (bit i (2 ^ 60 - 1) && bit (cellAt b begin (from + i) j % 64) m)
+    go i (inl l) =
+        let e : 0 + i ≡ i = omega arith in
+        rw (low-ones 60 i, lt-ltb i 60 l) (bit-maskOf 60 (λ i. cellIn b begin from j m (0 + i)) i l ∙ ap (cellIn b begin from j m) e)
+    go i (inr l) = rw (low-ones 60 i, le-ltb i 60 l) (bit-maskOf-out 60 (λ i. cellIn b begin from j m (0 + i)) i l)
+
+-- of rows that were looked at some, and two parts of a word
+pub kept-part : {b : List ℕ} {begin from j m all word a : ℕ} → Part word all → KeptBy b begin from j m all a → KeptBy b begin from j m word (bitAnd a word)
+kept-part {b} {begin} {from} {j} {m} {all} {word} {a} p h = record { at = λ k. bit-and k a word ∙ go k (either (bit k word)) }
+  where
+    go : (k : ℕ) → (bit k word ≡ true) ⊎ (bit k word ≡ false) → (bit k a && bit k word) ≡ (bit k word && bit (cellAt b begin (from + k) j % 64) m)
+    go k (inl e) = rw (e, and-true (bit k a)) (h .at k ∙ (rw (p .at k e) refl))
     go k (inr e) = rw e (and-false (bit k a))
 
--- ---- the first 60 rows of a word, and the last four
--- the first 60 rows of a word stand in the block of its first
-pub same-block : (w k : ℕ) → w < 8 → k < 60 → (64 * w + k) / 127 ≡ 64 * w / 127
-same-block zero k l m = omega arith
-same-block (suc zero) k l m = omega arith
-same-block (suc (suc zero)) k l m = omega arith
-same-block (suc (suc (suc zero))) k l m = omega arith
-same-block (suc (suc (suc (suc zero)))) k l m = omega arith
-same-block (suc (suc (suc (suc (suc zero))))) k l m = omega arith
-same-block (suc (suc (suc (suc (suc (suc zero)))))) k l m = omega arith
-same-block (suc (suc (suc (suc (suc (suc (suc zero))))))) k l m = omega arith
-same-block (suc (suc (suc (suc (suc (suc (suc (suc w)))))))) k l m = absurd (omega arith)
-
-pub near-same : (begin w k j : ℕ) → w < 8 → k < 60 → nearPlace begin w + 4 * k + j ≡ cellPlace begin (64 * w + k) j
-near-same begin w k j l m = omega (arith, same-block w k l m)
-
-pub near-bits : (word k : ℕ) → bit k (bitAnd word ones60) ≡ (bit k word && ltb k 60)
-near-bits word k = bit-and k word ones60 ∙ ap (λ (t : Bool). bit k word && t) (low-ones 60 k)
-
-pub far-bits : (word k : ℕ) → k < 64 → bit k (bitAnd word (ones64 - ones60)) ≡ (bit k word && not (ltb k 60))
-far-bits word k l =
-    bit-and k word (ones64 - ones60)
-    ∙ ap (λ (t : Bool). bit k word && t) (complement 64 ones60 k (omega arith) l ∙ ap not (low-ones 60 k))
-
-pub near-lt : (word : ℕ) → bitAnd word ones60 < 2 ^ 60
-near-lt word = let z = and-le-r word ones60 in omega arith
-
-module _ (b : List ℕ) (begin w word : ℕ) (small : w < 8) (fits : word < 2 ^ 64) where
-  in-near : (k : ℕ) → bit k (bitAnd word ones60) ≡ true → (bit k word ≡ true) × (k < 60)
-  in-near k e =
-      let z = sym (near-bits word k) ∙ e in (and-l (bit k word) _ z, ltb-true k 60 (and-r (bit k word) _ z))
-
-  pub near-readable : (j : ℕ) → j < 4 → Readable b begin (64 * w) word → NearReadable b (nearPlace begin w + j) (bitAnd word ones60)
-  near-readable j l h = record {
-    there = λ k e. let p = in-near k e in omega (arith, h .there k (p .0), near-same begin w k j small (p .1));
-    few = λ k e. in-near k e .1;
-  }
-
-  pub far-readable : Readable b begin (64 * w) word → Readable b begin (64 * w) (bitAnd word (ones64 - ones60))
-  far-readable h = record { there = λ k e. h .there k (in-far k e); cell = λ k j e l. h .cell k j (in-far k e) l }
-    where
-      in-far : (k : ℕ) → bit k (bitAnd word (ones64 - ones60)) ≡ true → bit k word ≡ true
-      in-far k e = and-l (bit k word) _ (sym (bit-and k word (ones64 - ones60)) ∙ e)
-
-  -- rows of the first 60 alone
-  pub kept-near : {j d keep : ℕ} → j < 4 → bitAnd word ones60 ≡ word
-      → KeptNear b (nearPlace begin w + j) d (bitAnd word ones60) keep → KeptBy b begin (64 * w) j d word keep
-  kept-near {j} {d} {keep} l e h = record { at = λ k. h .at k ∙ same k (either (bit k (bitAnd word ones60))) }
-    where
-      same : (k : ℕ) → (bit k (bitAnd word ones60) ≡ true) ⊎ (bit k (bitAnd word ones60) ≡ false)
-          → (bit k (bitAnd word ones60) && bit (byteAt b (nearPlace begin w + j + 4 * k) % 64) d) ≡ (bit k word && bit (cellAt b begin (64 * w + k) j % 64) d)
-      same k (inl p) =
-          let q : nearPlace begin w + j + 4 * k ≡ cellPlace begin (64 * w + k) j = omega (arith, near-same begin w k j small (in-near k p .1)) in
-          rw (p, in-near k p .0, q) refl
-      same k (inr p) = rw (p, sym (ap (bit k) e) ∙ p) refl
-
-  pub kept-both : {j d keep more : ℕ} → j < 4
-      → KeptNear b (nearPlace begin w + j) d (bitAnd word ones60) keep
-      → KeptBy b begin (64 * w) j d (bitAnd word (ones64 - ones60)) more → KeptBy b begin (64 * w) j d word (bitOr keep more)
-  kept-both {j} {d} {keep} {more} l h f = record { at = λ k. bit-or k keep more ∙ go k (below k 64) (below k 60) }
-    where
-      go : (k : ℕ) → (k < 64) ⊎ (64 ≤ k) → (k < 60) ⊎ (60 ≤ k) → (bit k keep || bit k more) ≡ (bit k word && bit (cellAt b begin (64 * w + k) j % 64) d)
-      go k (inl m) (inl p) =
-          let q : nearPlace begin w + j + 4 * k ≡ cellPlace begin (64 * w + k) j = omega (arith, near-same begin w k j small p) in
-          rw (h .at k, f .at k, near-bits word k, far-bits word k m, lt-ltb k 60 p, and-true (bit k word), and-false (bit k word), q)
-          (or-false (bit k word && bit (cellAt b begin (64 * w + k) j % 64) d))
-      go k (inl m) (inr p) =
-          rw (h .at k, f .at k, near-bits word k, far-bits word k m, le-ltb k 60 p, and-true (bit k word), and-false (bit k word)) refl
-      go k (inr m) p =
-          let z : bit k word ≡ false = bit-high 64 word k fits m in
-          rw (h .at k, f .at k, near-bits word k, bit-and k word (ones64 - ones60), z) refl
+pub kept-join : {b : List ℕ} {begin from j m word x y a c : ℕ} → TwoParts word x y → KeptBy b begin from j m x a → KeptBy b begin from j m y c
+    → KeptBy b begin from j m word (bitOr a c)
+kept-join {b} {begin} {from} {j} {m} {word} {x} {y} {a} {c} e p q =
+    record { at = λ k. rw (bit-or k a c, p .at k, q .at k, e .at k) (both (bit k x) (bit k y) (bit (cellAt b begin (from + k) j % 64) m)) }
+  where
+    both : (s t u : Bool) → ((s && u) || (t && u)) ≡ ((s || t) && u)
+    both true true true = refl
+    both true true false = refl
+    both true false u = or-false u
+    both false t u = refl
 
 -- ---- the places of a domain and of 255
 any-place : (x : ℕ) → isAny x ≡ true → x % 64 ≡ 63

@@ -3,7 +3,7 @@ use mathlib.Core.Path.{_≡_}
 use mathlib.Core.Bool.{Bool, _&&_, not, true}
 use mathlib.Core.Logic.{_⊎_}
 use mathlib.Core.List.{List, [], _∷_}
-use Prim.Native.Nat.{_%_, _*_, _+_, _/_, _<_, _^_, ℕ}
+use Prim.Native.Nat.{_%_, _*_, _+_, _-_, _/_, _<_, _^_, ℕ}
 use lib.Bits.{bitOr}
 use lib.Dec.{ltb}
 use lib.ListN.{getD, length}
@@ -28,6 +28,42 @@ pub record Readable (b : List ℕ) (begin from word : ℕ) : Type 0 where
   pub there : (k : ℕ) → bit k word ≡ true → cellPlace begin (from + k) 3 < length b
   pub cell : (k j : ℕ) → bit k word ≡ true → j < 4 → IsCell (cellAt b begin (from + k) j)
 
+-- where row 0 of word w stands
+abbrev pub nearPlace : ℕ → ℕ → ℕ
+nearPlace begin w = begin + 4 * (64 * w + 64 * w / 127)
+
+-- ---- the walk over rows
+-- "Walk block, row and bit along as counters instead, proved equal at every row to those quotients and remainders.": the counters of row r
+pub record CountersOf (r block row word bit₀ : ℕ) : Type 0 where
+  pub block-is : block ≡ r / 127
+  pub row-is : row ≡ r % 127
+  pub word-is : word ≡ r / 64
+  pub bit-is : bit₀ ≡ r % 64
+
+-- a walk stands at row r, of a sheet whose rows begin at `begin`: by its counters, and at the row's first byte
+pub record AtRow (r begin block row word bit₀ at : ℕ) : Type 0 where
+  pub counters : CountersOf r block row word bit₀
+  pub place : at ≡ cellPlace begin r 0
+
+-- it stands at a word's first row, and the rows that are set in `rows` are there, in the same block
+pub record Stretch (b : List ℕ) (begin block row word bit₀ at rows : ℕ) : Type 0 where
+  pub stands : AtRow (64 * word) begin block row word bit₀ at
+  pub in-word : (k : ℕ) → bit k rows ≡ true → k < 64
+  pub in-block : (k : ℕ) → bit k rows ≡ true → row + k < 127
+  pub there : (k : ℕ) → bit k rows ≡ true → cellPlace begin (64 * word + k) 3 < length b
+
+-- no row is set but of the first 60
+pub record NearRows (word : ℕ) : Type 0 where
+  pub few : (k : ℕ) → bit k word ≡ true → k < 60
+
+-- r is the word cut to its first n rows
+pub record FirstRows (word n r : ℕ) : Type 0 where
+  pub at : (k : ℕ) → bit k r ≡ (bit k word && ltb k n)
+
+-- r is the word without its first n rows
+pub record PastRows (word n r : ℕ) : Type 0 where
+  pub at : (k : ℕ) → bit k r ≡ (bit k word && not (ltb k n))
+
 -- ---- pass 1
 -- r is the word cut to the rows whose cell at place j is in d
 pub record Kept (b : List ℕ) (begin from j d word r : ℕ) : Type 0 where
@@ -45,23 +81,6 @@ pub record WithAny (d m : ℕ) : Type 0 where
 pub record KeptBy (b : List ℕ) (begin from j m word r : ℕ) : Type 0 where
   pub at : (k : ℕ) → bit k r ≡ (bit k word && bit (cellAt b begin (from + k) j % 64) m)
 
--- where row 0 of word w stands; the first 60 rows of a word stand in one block, every 4 bytes from there
-abbrev pub nearPlace : ℕ → ℕ → ℕ
-nearPlace begin w = begin + 4 * (64 * w + 64 * w / 127)
-
--- the same of rows whose bytes stand at `base` and every 4 from there
-pub record NearReadable (b : List ℕ) (base word : ℕ) : Type 0 where
-  pub there : (k : ℕ) → bit k word ≡ true → base + 4 * k < length b
-  pub few : (k : ℕ) → bit k word ≡ true → k < 60
-
--- r is the word cut to the rows whose byte there is one of the places m
-pub record KeptNear (b : List ℕ) (base m word r : ℕ) : Type 0 where
-  pub at : (k : ℕ) → bit k r ≡ (bit k word && bit (byteAt b (base + 4 * k) % 64) m)
-
--- all 60 rows, set or not
-pub record AllNear (b : List ℕ) (base m r : ℕ) : Type 0 where
-  pub at : (k : ℕ) → k < 60 → bit k r ≡ bit (byteAt b (base + 4 * k) % 64) m
-
 -- ---- pass 2
 -- a set for each of the four places
 abbrev pub fourOf : ℕ → ℕ → ℕ → ℕ → List ℕ
@@ -77,13 +96,9 @@ pub record GatheredOf (cell : ℕ → ℕ → ℕ) (passes : ℕ → Bool) (f g 
 abbrev pub Gathered : List ℕ → ℕ → ℕ → ℕ → List ℕ → List ℕ → Type 0
 Gathered b begin from word f g = GatheredOf (λ k j. cellAt b begin (from + k) j % 32) (λ k. bit k word) f g
 
--- the same of rows that stand at `base` and every 4 bytes from there
-abbrev pub GatheredNear : List ℕ → ℕ → ℕ → List ℕ → List ℕ → Type 0
-GatheredNear b base word f g = GatheredOf (λ k j. byteAt b (base + 4 * k + j) % 32) (λ k. bit k word) f g
-
 -- the first n of them
-abbrev pub GatheredRun : List ℕ → ℕ → ℕ → List ℕ → List ℕ → Type 0
-GatheredRun b base n f g = GatheredOf (λ k j. byteAt b (base + 4 * k + j) % 32) (λ k. ltb k n) f g
+abbrev pub GatheredRun : List ℕ → ℕ → ℕ → ℕ → List ℕ → List ℕ → Type 0
+GatheredRun b begin from n f g = GatheredOf (λ k j. cellAt b begin (from + k) j % 32) (λ k. ltb k n) f g
 
 -- four sets of 32 bits
 pub record SmallSets (f : List ℕ) : Type 0 where
@@ -99,21 +114,9 @@ pub record Joined (f g h : List ℕ) : Type 0 where
 abbrev pub RowThere : List ℕ → ℕ → Type 0
 RowThere b at = at + 3 < length b
 
--- the rows of the word stand at `base` and every 4 bytes from there
-pub record NearRows (b : List ℕ) (base word : ℕ) : Type 0 where
-  pub at : (k : ℕ) → bit k word ≡ true → RowThere b (base + 4 * k)
-
--- n rows stand there
-pub record RunReadable (b : List ℕ) (base n : ℕ) : Type 0 where
-  pub at : (k : ℕ) → k < n → RowThere b (base + 4 * k)
-
 -- the first n rows of the word are set
 pub record RunOf (word n : ℕ) : Type 0 where
   pub at : (k : ℕ) → k < n → bit k word ≡ true
-
--- r is the word without its first n rows
-pub record PastRun (word n r : ℕ) : Type 0 where
-  pub at : (k : ℕ) → bit k r ≡ (bit k word && not (ltb k n))
 
 -- the sets y have every value of the sets x
 pub record Covered (x y : List ℕ) : Type 0 where

@@ -1,2 +1,3 @@
--- The bytes of a row and the rows of a word. Nothing here is proved: the laws stand in proofs/.
+-- Cells: the bytes of a row, the rows of a word, and the walk over them. Acceptance: worked examples. Nothing here is proved: the laws stand in proofs/.
 pub mod Cells
+pub mod Acceptance

@@ -1,20 +1,14 @@
-// The rows of one word: 64 rows of a sheet, of which those whose bit is set are looked at.
+// The rows of one word: 64 rows of a sheet, of which those whose bit is set are looked at (the picture: counter.rt).
 //
-//     word w    bit 0    bit 1       ..    bit 63
-//     row       64 w     64 w + 1    ..    64 w + 63       row r begins at the file's byte begin + 4 (r + r / 127)
-//
-// A block ends after 127 rows, with 4 bytes more. No word has its first 60 rows in two blocks, so these stand at base, base + 4, .. , and
-// only the last four have to be found by division.
+// No word has its first 60 rows in two blocks: these are walked in one stretch, and of the last four each is looked for in its block.
 use crate::bits::*;
+use crate::counter::*;
 ghost use mathlib.Core.Path.{_≡_};
-ghost use Prim.Native.Nat.{_+_, _*_, _/_, _%_, _^_, _<_, _≤_};
+ghost use Prim.Native.Nat.{_+_, _*_, _-_, _%_, _^_, _<_, _≤_};
 ghost use lib.Bits.{bitOr};
 ghost use lib.ListN.{length};
 ghost use Rattle.fields.specs.Bytes.{byteAt};
-ghost use Rattle.cells.specs.Cells.{nearPlace, Readable, WithAny, Kept, KeptAny, KeptBy, KeptNear, NearReadable, AllNear, fourOf, RowThere, NearRows, RunReadable, RunOf, PastRun, Gathered, GatheredNear, GatheredRun, SmallSets, Joined};
-
-// The first 60 rows of a word.
-const NEAR: u64 = 1152921504606846975;
+ghost use Rattle.cells.specs.Cells.{nearPlace, AtRow, NearRows, Stretch, Readable, WithAny, Kept, KeptAny, KeptBy, fourOf, RowThere, RunOf, Gathered, GatheredRun, SmallSets, Joined};
 
 // The place of 255: 255 % 64.
 const ANY: u64 = 9223372036854775808;
@@ -36,32 +30,34 @@ fn with_any(d: u32) -> u64
     (d as u64) | ANY
 }
 
-// Rows that are set, one by one. Their bytes stand at `base` and every 4 from there.
-fn kept_near_set(book: &[u8], base: usize, m: u64, word: u64) -> u64
-    requires { ⌜ NearReadable (now book) base word ⌝ }
-    ensures { λ r. ⌜ KeptNear (now (book .entry)) base m word r ⌝ }
+// Rows of the first 60 that are set, one by one.
+fn kept_set(book: &[u8], p: Counters, j: usize, m: u64, word: u64) -> u64
+    requires { ⌜ (j < 4) × Stretch (now book) (p .begin) (p .block) (p .row) (p .word) (p .bit) (p .at) word ⌝ }
+    ensures { λ r. ⌜ KeptBy (now (book .entry)) (p .begin) (64 * p .word) j m word r ⌝ }
 {
     let mut left = word;
     let mut keep: u64 = 0;
     while left != 0 {
         let i = lowest(left);
-        let v = fields::wide32(book[base + 4 * (i as usize)]) % 64;
+        let at = at_near(p, i as usize).at + j;
+        let v = fields::wide32(book[at]) % 64;
         keep = keep | (has(m, v) << i);
         left = without_lowest(left);
     }
     keep
 }
 
-// All 60 rows, set or not, with no test.
-fn kept_near_all(book: &[u8], base: usize, m: u64) -> u64
-    requires { ⌜ base + 236 < length (now book) ⌝ }
-    ensures { λ r. ⌜ AllNear (now (book .entry)) base m r ⌝ }
+// All 60, set or not, with no test.
+fn kept_all(book: &[u8], p: Counters, j: usize, m: u64) -> u64
+    requires { ⌜ (j < 4) × Stretch (now book) (p .begin) (p .block) (p .row) (p .word) (p .bit) (p .at) (2 ^ 60 - 1) ⌝ }
+    ensures { λ r. ⌜ KeptBy (now (book .entry)) (p .begin) (64 * p .word) j m (2 ^ 60 - 1) r ⌝ }
 {
     let mut keep: u64 = 0;
     let mut k: usize = 60;
     while 0 < k {
         k -= 1;
-        keep = keep + keep + has(m, fields::wide32(book[base + 4 * k]) % 64);
+        let at = at_near(p, k).at + j;
+        keep = keep + keep + has(m, fields::wide32(book[at]) % 64);
     }
     keep
 }
@@ -72,27 +68,27 @@ fn many(word: u64) -> bool {
 }
 
 // The first 60 rows.
-fn kept_near(book: &[u8], base: usize, m: u64, word: u64) -> u64
-    requires { ⌜ NearReadable (now book) base word × (base + 236 < length (now book)) ⌝ }
-    ensures { λ r. ⌜ KeptNear (now (book .entry)) base m word r ⌝ }
+fn kept_near(book: &[u8], p: Counters, j: usize, m: u64, word: u64) -> u64
+    requires { ⌜ (j < 4) × Stretch (now book) (p .begin) (p .block) (p .row) (p .word) (p .bit) (p .at) (2 ^ 60 - 1) × NearRows word ⌝ }
+    ensures { λ r. ⌜ KeptBy (now (book .entry)) (p .begin) (64 * p .word) j m word r ⌝ }
 {
     if many(word) {
-        return kept_near_all(book, base, m) & word;
+        return kept_all(book, p, j, m) & word;
     }
-    kept_near_set(book, base, m, word)
+    kept_set(book, p, j, m, word)
 }
 
-// Rows anywhere.
-fn kept_far(book: &[u8], begin: usize, from: usize, j: usize, m: u64, word: u64) -> u64
-    requires { ⌜ (from ≤ 448) × (j < 4) × Readable (now book) begin from word ⌝ }
-    ensures { λ r. ⌜ KeptBy (now (book .entry)) begin from j m word r ⌝ }
+// Rows anywhere in the word.
+fn kept_far(book: &[u8], p: Counters, j: usize, m: u64, word: u64) -> u64
+    requires { ⌜ (j < 4) × AtRow (64 * p .word) (p .begin) (p .block) (p .row) (p .word) (p .bit) (p .at) × Readable (now book) (p .begin) (64 * p .word) word ⌝ }
+    ensures { λ r. ⌜ KeptBy (now (book .entry)) (p .begin) (64 * p .word) j m word r ⌝ }
 {
     let mut left = word;
     let mut keep: u64 = 0;
     while left != 0 {
         let i = lowest(left);
-        let r = from + (i as usize);
-        let v = fields::wide32(book[begin + 4 * (r + r / 127) + j]) % 64;
+        let at = at_bit(p, i as usize).at + j;
+        let v = fields::wide32(book[at]) % 64;
         keep = keep | (has(m, v) << i);
         left = without_lowest(left);
     }
@@ -104,14 +100,9 @@ fn kept_by(book: &[u8], begin: usize, w: usize, j: usize, m: u64, word: u64) -> 
     requires { ⌜ (w < 8) × (j < 4) × Readable (now book) begin (64 * w) word × (nearPlace begin w + 239 < length (now book)) ⌝ }
     ensures { λ r. ⌜ KeptBy (now (book .entry)) begin (64 * w) j m word r ⌝ }
 {
-    let from = 64 * w;
-    let base = begin + 4 * (from + from / 127);
-    let near = word & NEAR;
-    let keep = kept_near(book, base + j, m, near);
-    if near == word {
-        return keep;
-    }
-    keep | kept_far(book, begin, from, j, m, word & !NEAR)
+    let p = at_word(begin, w);
+    let far = kept_far(book, p, j, m, past_rows(word, 60));
+    kept_near(book, p, j, m, first_rows(word, 60)) | far
 }
 
 // Pass 1 over word w.
@@ -155,25 +146,15 @@ fn with_row(book: &[u8], at: usize, f: Four) -> Four
 
 // How many rows of a word are set from the first on without a gap.
 fn run_of(word: u64) -> usize
-    requires { ⌜ word < 2 ^ 60 ⌝ }
-    ensures { λ n. ⌜ (n ≤ 60) × RunOf word n ⌝ }
+    ensures { λ n. ⌜ (n ≤ 64) × RunOf word n ⌝ }
 {
     u64::trailing_zeros(!word) as usize
 }
 
-// The rows of a word from row n on.
-fn past_run(word: u64, n: usize) -> u64
-    requires { ⌜ (0 < n) × (n ≤ 60) ⌝ }
-    ensures { λ r. ⌜ PastRun word n r ⌝ }
-{
-    let all: u64 = 18446744073709551615;
-    word & !(all >> (64 - n))
-}
-
 // The first n rows of a word, all of them set.
-fn gathered_run(book: &[u8], base: usize, n: usize) -> Four
-    requires { ⌜ (n ≤ 60) × RunReadable (now book) base n ⌝ }
-    ensures { λ g. ⌜ GatheredRun (now (book .entry)) base n (fourOf 0 0 0 0) (fourOf (g .a) (g .b) (g .c) (g .d)) ⌝ }
+fn gathered_run(book: &[u8], p: Counters, n: usize) -> Four
+    requires { ⌜ Stretch (now book) (p .begin) (p .block) (p .row) (p .word) (p .bit) (p .at) (2 ^ n - 1) ⌝ }
+    ensures { λ g. ⌜ GatheredRun (now (book .entry)) (p .begin) (64 * p .word) n (fourOf 0 0 0 0) (fourOf (g .a) (g .b) (g .c) (g .d)) ⌝ }
 {
     let mut g = Four {
         a: 0,
@@ -183,16 +164,16 @@ fn gathered_run(book: &[u8], base: usize, n: usize) -> Four
     };
     let mut k: usize = 0;
     while k < n {
-        g = with_row(book, base + 4 * k, g);
+        g = with_row(book, at_near(p, k).at, g);
         k += 1;
     }
     g
 }
 
-// Rows that are set, one by one.
-fn gathered_near_set(book: &[u8], base: usize, word: u64) -> Four
-    requires { ⌜ NearRows (now book) base word ⌝ }
-    ensures { λ g. ⌜ GatheredNear (now (book .entry)) base word (fourOf 0 0 0 0) (fourOf (g .a) (g .b) (g .c) (g .d)) ⌝ }
+// Rows of the first 60 that are set, one by one.
+fn gathered_set(book: &[u8], p: Counters, word: u64) -> Four
+    requires { ⌜ Stretch (now book) (p .begin) (p .block) (p .row) (p .word) (p .bit) (p .at) word ⌝ }
+    ensures { λ g. ⌜ Gathered (now (book .entry)) (p .begin) (64 * p .word) word (fourOf 0 0 0 0) (fourOf (g .a) (g .b) (g .c) (g .d)) ⌝ }
 {
     let mut left = word;
     let mut g = Four {
@@ -203,16 +184,16 @@ fn gathered_near_set(book: &[u8], base: usize, word: u64) -> Four
     };
     while left != 0 {
         let i = lowest(left);
-        g = with_row(book, base + 4 * (i as usize), g);
+        g = with_row(book, at_near(p, i as usize).at, g);
         left = without_lowest(left);
     }
     g
 }
 
-// Rows anywhere.
-fn gathered_far(book: &[u8], begin: usize, from: usize, word: u64) -> Four
-    requires { ⌜ (from ≤ 448) × Readable (now book) begin from word ⌝ }
-    ensures { λ g. ⌜ Gathered (now (book .entry)) begin from word (fourOf 0 0 0 0) (fourOf (g .a) (g .b) (g .c) (g .d)) ⌝ }
+// Rows anywhere in the word.
+fn gathered_far(book: &[u8], p: Counters, word: u64) -> Four
+    requires { ⌜ AtRow (64 * p .word) (p .begin) (p .block) (p .row) (p .word) (p .bit) (p .at) × Readable (now book) (p .begin) (64 * p .word) word ⌝ }
+    ensures { λ g. ⌜ Gathered (now (book .entry)) (p .begin) (64 * p .word) word (fourOf 0 0 0 0) (fourOf (g .a) (g .b) (g .c) (g .d)) ⌝ }
 {
     let mut left = word;
     let mut g = Four {
@@ -223,8 +204,7 @@ fn gathered_far(book: &[u8], begin: usize, from: usize, word: u64) -> Four
     };
     while left != 0 {
         let i = lowest(left);
-        let r = from + (i as usize);
-        g = with_row(book, begin + 4 * (r + r / 127), g);
+        g = with_row(book, at_bit(p, i as usize).at, g);
         left = without_lowest(left);
     }
     g
@@ -242,17 +222,17 @@ fn add(seen: &mut [u32; 4], g: Four)
 }
 
 // The first 60 rows: those that are set from the first on without a gap, and then the others.
-fn gathered_near(book: &[u8], base: usize, word: u64, seen: &mut [u32; 4])
-    requires { ⌜ NearRows (now book) base word × (word < 2 ^ 60) × SmallSets (now seen) ⌝ }
-    ensures { λ r. ⌜ GatheredNear (now (book .entry)) base word (now (seen .entry)) (now (seen .exit)) × SmallSets (now (seen .exit)) ⌝ }
+fn gathered_near(book: &[u8], p: Counters, word: u64, seen: &mut [u32; 4])
+    requires { ⌜ Stretch (now book) (p .begin) (p .block) (p .row) (p .word) (p .bit) (p .at) word × SmallSets (now seen) ⌝ }
+    ensures { λ r. ⌜ Gathered (now (book .entry)) (p .begin) (64 * p .word) word (now (seen .entry)) (now (seen .exit)) × SmallSets (now (seen .exit)) ⌝ }
 {
     let n = run_of(word);
     if n < 24 {
-        add(seen, gathered_near_set(book, base, word));
+        add(seen, gathered_set(book, p, word));
         return;
     }
-    add(seen, gathered_run(book, base, n));
-    add(seen, gathered_near_set(book, base, past_run(word, n)));
+    add(seen, gathered_run(book, p, n));
+    add(seen, gathered_set(book, p, past_rows(word, n)));
 }
 
 // Pass 2 over word w: the values of its rows are added to a set for each place.
@@ -260,11 +240,7 @@ pub fn gathered(book: &[u8], begin: usize, w: usize, word: u64, seen: &mut [u32;
     requires { ⌜ (w < 8) × Readable (now book) begin (64 * w) word × (nearPlace begin w + 239 < length (now book)) × SmallSets (now seen) ⌝ }
     ensures { λ r. ⌜ Gathered (now (book .entry)) begin (64 * w) word (now (seen .entry)) (now (seen .exit)) × SmallSets (now (seen .exit)) ⌝ }
 {
-    let from = 64 * w;
-    let near = word & NEAR;
-    gathered_near(book, begin + 4 * (from + from / 127), near, seen);
-    if near == word {
-        return;
-    }
-    add(seen, gathered_far(book, begin, from, word & !NEAR));
+    let p = at_word(begin, w);
+    gathered_near(book, p, first_rows(word, 60), seen);
+    add(seen, gathered_far(book, p, past_rows(word, 60)));
 }

@@ -3,14 +3,13 @@ use mathlib.Core.Path.{_∙_, _≡_, ap, refl, sym}
 use mathlib.Core.Bool.{Bool, _&&_, _||_, false, false≢true, true}
 use mathlib.Core.Logic.{_⊎_, inl, inr}
 use mathlib.Core.List.{List}
-use Prim.Native.Nat.{_%_, _*_, _+_, _-_, _/_, _<_, _^_, _≤_, ℕ}
+use Prim.Native.Nat.{_%_, _*_, _+_, _-_, _<_, _^_, _≤_, ℕ}
 use native.Mathlib.Omega.{arith}
 use lib.Bits.{bitOr, or-lt}
 use lib.Dec.{eqb, ltb}
 use lib.ListN.{getD, length-set, set}
 use lib.Seq.{getD-set-other, getD-set-same}
 use borrow.Author.Tests.{eq-eqb, eqb-true, le-ltb, lt-ltb, ltb-true, ne-eqb}
-use Rattle.fields.specs.Bytes.{byteAt}
 use Rattle.model.specs.Books.{isAny, matches}
 use Rattle.model.specs.Masks.{bit}
 use Rattle.model.specs.States.{ofSheet}
@@ -98,32 +97,52 @@ pub tabled-none : {cell : ℕ → ℕ → ℕ} {passes : ℕ → Bool} {T : List
 tabled-none h n =
     record { table = h; old = λ i a l e. e; new = λ k a l e. absurd (false≢true (sym (n k) ∙ e)); sound = λ i a l e. inl e }
 
-pub tabled-more : {cell : ℕ → ℕ → ℕ} {passes all : ℕ → Bool} {T U Y : List ℕ} (t : ℕ) → ((k : ℕ) → all k ≡ (passes k || eqb k t))
-    → Tabled cell passes T U → RowPut (cell t 0) (cell t 1) (cell t 2) U Y → Tabled cell all T Y
-tabled-more {cell} {passes} {all} {T} {U} {Y} t e p q = record {
+-- rows of one part of a word, and then of the other
+pub tabled-join : {cell : ℕ → ℕ → ℕ} {passes more all : ℕ → Bool} {T U Y : List ℕ} → ((k : ℕ) → all k ≡ (passes k || more k))
+    → Tabled cell passes T U → Tabled cell more U Y → Tabled cell all T Y
+tabled-join {cell} {passes} {more} {all} {T} {U} {Y} e p q = record {
   table = q .table;
-  old = λ i a l x. q .at i a l ∙ or-l (bit a (getD U i 0)) _ (p .old i a l x);
-  new = λ k a l x y. new k a l y (or-e (passes k) (eqb k t) (sym (e k) ∙ x));
-  sound = λ i a l x. from i a l (or-e (bit a (getD U i 0)) _ (sym (q .at i a l) ∙ x));
+  old = λ i a l x. q .old i a l (p .old i a l x);
+  new = λ k a l x y. new k a l y (or-e (passes k) (more k) (sym (e k) ∙ x));
+  sound = λ i a l x. second i a l (q .sound i a l x);
 }
   where
-    new : (k a : ℕ) → a < 32 → matches (cell k 0) a ≡ true → (passes k ≡ true) ⊎ (eqb k t ≡ true) → bit a (entryAt Y (slot (cell k 2)) (slot (cell k 1))) ≡ true
-    new k a l y (inl x) = q .at _ a l ∙ or-l (bit a (entryAt U (slot (cell k 2)) (slot (cell k 1)))) _ (p .new k a l x y)
-    new k a l y (inr x) =
-        let z = eqb-true k t x in
-        q .at _ a l ∙ or-r (bit a (entryAt U (slot (cell k 2)) (slot (cell k 1)))) _ (and-i (eq-eqb _ _ (ap (λ (i : ℕ). 33 * slot (cell i 2) + slot (cell i 1)) z)) (rw (← z) y))
+    new : (k a : ℕ) → a < 32 → matches (cell k 0) a ≡ true → (passes k ≡ true) ⊎ (more k ≡ true) → bit a (entryAt Y (slot (cell k 2)) (slot (cell k 1))) ≡ true
+    new k a l y (inl x) = q .old _ a l (p .new k a l x y)
+    new k a l y (inr x) = q .new k a l x y
 
     first : (i a : ℕ) → (bit a (getD T i 0) ≡ true) ⊎ ((k : ℕ) × (passes k ≡ true) × (33 * slot (cell k 2) + slot (cell k 1) ≡ i) × (matches (cell k 0) a ≡ true))
         → (bit a (getD T i 0) ≡ true) ⊎ ((k : ℕ) × (all k ≡ true) × (33 * slot (cell k 2) + slot (cell k 1) ≡ i) × (matches (cell k 0) a ≡ true))
     first i a (inl x) = inl x
-    first i a (inr (k, x, y, z)) = inr (k, e k ∙ or-l (passes k) (eqb k t) x, y, z)
+    first i a (inr (k, x, y, z)) = inr (k, e k ∙ or-l (passes k) (more k) x, y, z)
 
-    from : (i a : ℕ) → a < 32 → (bit a (getD U i 0) ≡ true) ⊎ ((eqb i (33 * slot (cell t 2) + slot (cell t 1)) && matches (cell t 0) a) ≡ true)
+    second : (i a : ℕ) → a < 32
+        → (bit a (getD U i 0) ≡ true) ⊎ ((k : ℕ) × (more k ≡ true) × (33 * slot (cell k 2) + slot (cell k 1) ≡ i) × (matches (cell k 0) a ≡ true))
         → (bit a (getD T i 0) ≡ true) ⊎ ((k : ℕ) × (all k ≡ true) × (33 * slot (cell k 2) + slot (cell k 1) ≡ i) × (matches (cell k 0) a ≡ true))
-    from i a l (inl x) = first i a (p .sound i a l x)
-    from i a l (inr x) =
+    second i a l (inl x) = first i a (p .sound i a l x)
+    second i a l (inr (k, x, y, z)) = inr (k, e k ∙ or-r (passes k) (more k) x, y, z)
+
+-- one row
+tabled-one : (cell : ℕ → ℕ → ℕ) (t : ℕ) {U Y : List ℕ} → RowPut (cell t 0) (cell t 1) (cell t 2) U Y → Tabled cell (λ k. eqb k t) U Y
+tabled-one cell t {U} {Y} q = record {
+  table = q .table;
+  old = λ i a l x. q .at i a l ∙ or-l (bit a (getD U i 0)) _ x;
+  new = λ k a l x y.
+      let z = eqb-true k t x in
+      q .at _ a l ∙ or-r (bit a (entryAt U (slot (cell k 2)) (slot (cell k 1)))) _ (and-i (eq-eqb _ _ (ap (λ (i : ℕ). 33 * slot (cell i 2) + slot (cell i 1)) z)) (rw (← z) y));
+  sound = λ i a l x. from i a (or-e (bit a (getD U i 0)) _ (sym (q .at i a l) ∙ x));
+}
+  where
+    from : (i a : ℕ) → (bit a (getD U i 0) ≡ true) ⊎ ((eqb i (33 * slot (cell t 2) + slot (cell t 1)) && matches (cell t 0) a) ≡ true)
+        → (bit a (getD U i 0) ≡ true) ⊎ ((k : ℕ) × (eqb k t ≡ true) × (33 * slot (cell k 2) + slot (cell k 1) ≡ i) × (matches (cell k 0) a ≡ true))
+    from i a (inl x) = inl x
+    from i a (inr x) =
         inr
-        (t, e t ∙ or-r (passes t) (eqb t t) (eq-eqb t t refl), sym (eqb-true i _ (and-l (eqb i (33 * slot (cell t 2) + slot (cell t 1))) _ x)), and-r (eqb i (33 * slot (cell t 2) + slot (cell t 1))) _ x)
+        (t, eq-eqb t t refl, sym (eqb-true i _ (and-l (eqb i (33 * slot (cell t 2) + slot (cell t 1))) _ x)), and-r (eqb i (33 * slot (cell t 2) + slot (cell t 1))) _ x)
+
+pub tabled-more : {cell : ℕ → ℕ → ℕ} {passes all : ℕ → Bool} {T U Y : List ℕ} (t : ℕ) → ((k : ℕ) → all k ≡ (passes k || eqb k t))
+    → Tabled cell passes T U → RowPut (cell t 0) (cell t 1) (cell t 2) U Y → Tabled cell all T Y
+tabled-more {cell} t e p q = tabled-join e p (tabled-one cell t q)
 
 pub tabled-same : {cell : ℕ → ℕ → ℕ} {passes all : ℕ → Bool} {T U : List ℕ} → ((k : ℕ) → passes k ≡ all k) → Tabled cell passes T U → Tabled cell all T U
 tabled-same {cell} {passes} {all} {T} {U} e p = record {
@@ -137,14 +156,6 @@ tabled-same {cell} {passes} {all} {T} {U} e p = record {
         → (bit a (getD T i 0) ≡ true) ⊎ ((k : ℕ) × (all k ≡ true) × (33 * slot (cell k 2) + slot (cell k 1) ≡ i) × (matches (cell k 0) a ≡ true))
     go i a (inl x) = inl x
     go i a (inr (k, x, y, z)) = inr (k, sym (e k) ∙ x, y, z)
-
--- where the cells of row k of word w stand
-module _ (b : List ℕ) (begin w k : ℕ) {at : ℕ} (e : at ≡ begin + 4 * (64 * w + 64 * w / 127) + 4 * (k + (64 * w % 127 + k) / 127)) where
-  pub word-cell : (j : ℕ) → byteAt b (at + j) ≡ cellAt b begin (64 * w + k) j
-  word-cell j = ap (byteAt b) (omega arith)
-
-  pub word-first : byteAt b at ≡ cellAt b begin (64 * w + k) 0
-  word-first = ap (byteAt b) (omega arith)
 
 pub same-cells : {x y z x′ y′ z′ : ℕ} {T U : List ℕ} → x ≡ x′ → y ≡ y′ → z ≡ z′ → RowPut x y z T U → RowPut x′ y′ z′ T U
 same-cells p q r h = rw (← p, ← q, ← r) h

@@ -1,14 +1,15 @@
 // The rows of a sheet that match a value at place 3, as a table: which values of place 0 they allow with those of places 1 and 2 (the picture:
 // specs/Covers.antt). So rows with 255 are put down once, and not for each value that they match.
 use cells::bits::*;
+use cells::counter::*;
 use cells::walk::*;
 use words::index::*;
 ghost use mathlib.Core.Path.{_≡_};
-ghost use Prim.Native.Nat.{_+_, _*_, _/_, _^_, _<_};
+ghost use Prim.Native.Nat.{_+_, _*_, _<_};
 ghost use lib.ListN.{length};
 ghost use Rattle.fields.specs.Bytes.{byteAt};
 ghost use Rattle.model.specs.Masks.{bit};
-ghost use Rattle.cells.specs.Cells.{IsCell, Readable, cellAt, nearPlace};
+ghost use Rattle.cells.specs.Cells.{AtRow, IsCell, Readable, Stretch, cellAt, nearPlace};
 ghost use Rattle.words.specs.Sheets.{AtSheet, SheetWords};
 ghost use Rattle.cover.specs.Covers.{IsTable, MatchedValues, RowAt, RowPut, TableOf, Tabled, slot};
 
@@ -42,16 +43,30 @@ fn put_row(book: &[u8], at: usize, table: &mut [u32; 1089])
     table[i] = table[i] | matched_values(book[at]);
 }
 
-// Where row i of a word stands, whose row 0 stands at `base` as row `in_block` of its block: a block ends after 127 rows, with 4 bytes more.
-fn row_place(base: usize, in_block: usize, i: usize) -> usize
-    requires { ⌜ (in_block < 127) × (i < 64) × (base + 256 < 2 ^ 64) ⌝ }
-    ensures { λ r. ⌜ r ≡ base + 4 * (i + (in_block + i) / 127) ⌝ }
+// The rows that are set in `word`, of the first 60 of a word.
+fn put_near(book: &[u8], p: Counters, word: u64, table: &mut [u32; 1089])
+    requires { ⌜ Stretch (now book) (p .begin) (p .block) (p .row) (p .word) (p .bit) (p .at) word × Readable (now book) (p .begin) (64 * p .word) word × IsTable (now table) ⌝ }
+    ensures { λ r. ⌜ Tabled (λ k j. cellAt (now (book .entry)) (p .begin) (64 * p .word + k) j) (λ k. bit k word) (now (table .entry)) (now (table .exit)) ⌝ }
 {
-    let at = base + 4 * i;
-    if in_block + i < 127 {
-        return at;
+    let mut left = word;
+    while left != 0 {
+        let i = lowest(left) as usize;
+        put_row(book, at_near(p, i).at, table);
+        left = without_lowest(left);
     }
-    at + 4
+}
+
+// The rows that are set in `word`, anywhere in a word.
+fn put_far(book: &[u8], p: Counters, word: u64, table: &mut [u32; 1089])
+    requires { ⌜ AtRow (64 * p .word) (p .begin) (p .block) (p .row) (p .word) (p .bit) (p .at) × Readable (now book) (p .begin) (64 * p .word) word × IsTable (now table) ⌝ }
+    ensures { λ r. ⌜ Tabled (λ k j. cellAt (now (book .entry)) (p .begin) (64 * p .word + k) j) (λ k. bit k word) (now (table .entry)) (now (table .exit)) ⌝ }
+{
+    let mut left = word;
+    while left != 0 {
+        let i = lowest(left) as usize;
+        put_row(book, at_bit(p, i).at, table);
+        left = without_lowest(left);
+    }
 }
 
 // The rows of word w that are set in `word`.
@@ -59,15 +74,9 @@ fn put_word(book: &[u8], begin: usize, w: usize, word: u64, table: &mut [u32; 10
     requires { ⌜ (w < 8) × Readable (now book) begin (64 * w) word × (nearPlace begin w + 239 < length (now book)) × IsTable (now table) ⌝ }
     ensures { λ r. ⌜ Tabled (λ k j. cellAt (now (book .entry)) begin (64 * w + k) j) (λ k. bit k word) (now (table .entry)) (now (table .exit)) ⌝ }
 {
-    let from = 64 * w;
-    let base = begin + 4 * (from + from / 127);
-    let in_block = from % 127;
-    let mut left = word;
-    while left != 0 {
-        let i = lowest(left) as usize;
-        put_row(book, row_place(base, in_block, i), table);
-        left = without_lowest(left);
-    }
+    let p = at_word(begin, w);
+    put_far(book, p, past_rows(word, 60), table);
+    put_near(book, p, first_rows(word, 60), table);
 }
 
 // The rows of sheet s that are set and match the value v at place 3.

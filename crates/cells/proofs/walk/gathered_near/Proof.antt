@@ -1,27 +1,31 @@
-use mathlib.Core.Path.{_∙_, sym}
 use borrow.Author.Needs.{needs}
-use Rattle.model.specs.Masks.{bit}
-use Rattle.model.proofs.Tests.{and-l}
 use Rattle.cells.proofs.Collects.{of-added, of-join, run-joined}
+use Rattle.cells.proofs.Stretches.{part-stretch, past-part, run-stretch}
 use Rattle.cells.proofs.walk.gathered_near.Statement.{statement}
 use Rattle.cells.proofs.walk.gathered_near.Tie as tie
 
 returns : tie.Need-returns
-returns c = (of-added (c .before .gathered-near-set .ensures) (c .add .ensures), c .add .ensures .small)
+returns c = (of-added (c .before .gathered-set .ensures) (c .add .ensures), c .add .ensures .small)
 
 gathered-run-requires : tie.Need-gathered-run-requires
-gathered-run-requires c κs = (c .before .before .run-of .ensures .0, record { at = λ k l. c .before .before .before .before .pre .0 .at k (c .before .before .run-of .ensures .1 .at k l) })
+gathered-run-requires c κs =
+    let start : tie.Start = search in
+    let at-run : tie.After-run-of = search in
+    run-stretch (at-run .run-of .ensures .1) (start .pre .0)
 
-gathered-near-set-requires-2 : tie.Need-gathered-near-set-requires-2
-gathered-near-set-requires-2 c κs =
-    let start = c .before .before .before .before .before .before .before .before in
-    record { at = λ k e. start .pre .0 .at k (and-l (bit k (start .args .word)) _ (sym (c .past-run .ensures .at k) ∙ e)) }
+gathered-set-requires-2 : tie.Need-gathered-set-requires-2
+gathered-set-requires-2 c κs =
+    let start : tie.Start = search in
+    part-stretch (past-part (c .past-rows .ensures)) (start .pre .0)
 
 returns-2 : tie.Need-returns-2
 returns-2 c =
-    let at-gathered-run = c .before .before .before .before .before in
-    let at-run-of = at-gathered-run .before .before .before in (
-      of-join _ (run-joined (at-run-of .run-of .ensures .1) (c .before .before .past-run .ensures)) (of-added (at-gathered-run .gathered-run .ensures) (c .before .before .before .before .add2 .ensures)) (of-added (c .before .gathered-near-set2 .ensures) (c .add3 .ensures)),
+    let at-run : tie.After-run-of = search in
+    let at-past : tie.After-past-rows = search in
+    let at-gathered : tie.After-gathered-run = search in
+    let at-rest : tie.After-gathered-set2 = search in
+    let at-added : tie.After-add2 = search in (
+      of-join _ (run-joined (at-run .run-of .ensures .1) (at-past .past-rows .ensures)) (of-added (at-gathered .gathered-run .ensures) (at-added .add2 .ensures)) (of-added (at-rest .gathered-set2 .ensures) (c .add3 .ensures)),
       c .add3 .ensures .small,
     )
 
@@ -29,4 +33,4 @@ pub gathered-near-spec : {M : Type 1} → statement M
 gathered-near-spec =
     tie.close
     (tie.spec (λ c κs. search needs) (λ c κs. search needs) (λ c κs. search needs) returns gathered-run-requires (λ c κs. search needs) (λ c κs. search needs)
-    gathered-near-set-requires-2 (λ c κs. search needs) returns-2)
+    gathered-set-requires-2 (λ c κs. search needs) returns-2)

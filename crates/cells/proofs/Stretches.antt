@@ -32,6 +32,13 @@ place-moved begin r block k more e f g h = omega (arith, e, f, g, h)
 pub place-along : (begin r block k : ℕ) {at q : ℕ} → at ≡ cellPlace begin r 0 → block ≡ r / 127 → (r + k) / 127 ≡ block → q ≡ at + 4 * k → q ≡ cellPlace begin (r + k) 0
 place-along begin r block k e f g h = omega (arith, e, f, g, h)
 
+-- its row there
+pub row-moved : (r block row k more : ℕ) {q : ℕ} → r ≡ 127 * block + row → (r + k) / 127 ≡ block + more → q ≡ row + k - 127 * more → q ≡ (r + k) % 127
+row-moved r block row k more e f h = omega (arith, e, f, h)
+
+pub row-along : (r block row k : ℕ) {q : ℕ} → r ≡ 127 * block + row → (r + k) / 127 ≡ block → q ≡ row + k → q ≡ (r + k) % 127
+row-along r block row k e f h = omega (arith, e, f, h)
+
 -- ---- the rows of a word below a number, and the others
 pub first-rows : (word n : ℕ) → n ≤ 64 → FirstRows word n (bitAnd word (ones64 / 2 ^ (64 - n)))
 first-rows word n l = record { at = λ k. bit-and k word _ ∙ ap (λ (t : Bool). bit k word && t) (ones-shifted 64 n k l) }

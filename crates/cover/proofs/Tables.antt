@@ -10,19 +10,22 @@ use lib.Dec.{eqb, ltb}
 use lib.ListN.{getD, length-set, set}
 use lib.Seq.{getD-set-other, getD-set-same}
 use borrow.Author.Tests.{eq-eqb, eqb-true, le-ltb, lt-ltb, ltb-true, ne-eqb}
+use Rattle.fields.specs.Bytes.{byteAt}
 use Rattle.model.specs.Books.{isAny, matches}
-use Rattle.model.specs.Masks.{bit}
+use Rattle.model.specs.Masks.{Cleared, bit}
 use Rattle.model.specs.States.{ofSheet}
 use Rattle.model.proofs.Books.{matches-any, matches-plain, matches-self}
 use Rattle.model.proofs.Masks.{bit-or, bit-pow, bit-pow-only}
 use Rattle.model.proofs.Tests.{and-i, and-l, and-r, below, or-e, or-l, or-r, same-test}
-use Rattle.cells.specs.Cells.{IsCell, Kept, Readable, cellAt}
+use Rattle.cells.specs.Cells.{IsCell, Kept, Readable, cellAt, cellPlace}
 use Rattle.cells.proofs.Ones.{ones-bit}
-use Rattle.cells.proofs.Walks.{split}
+use Rattle.cells.proofs.Collects.{passed, passed-end, passed-turn}
+use Rattle.cells.proofs.Stretches.{row-cell}
+use Rattle.cells.proofs.Walks.{Part, part-cleared, split}
 use Rattle.words.specs.Sheets.{AtSheet, SheetWords, isSet, valueAt}
 use Rattle.words.proofs.Gathers.{at-position, word-row}
 use Rattle.words.proofs.Indexes.{set-below}
-use Rattle.cover.specs.Covers.{IsTable, MatchedValues, RowPut, TableOf, Tabled, entryAt, setWith, slot}
+use Rattle.cover.specs.Covers.{IsTable, MatchedValues, RowAt, RowPut, TableOf, Tabled, entryAt, setWith, slot}
 
 -- ---- slots
 pub slot-value : (x : ℕ) → x < 32 → slot x ≡ x
@@ -157,8 +160,19 @@ tabled-same {cell} {passes} {all} {T} {U} e p = record {
     go i a (inl x) = inl x
     go i a (inr (k, x, y, z)) = inr (k, sym (e k) ∙ x, y, z)
 
-pub same-cells : {x y z x′ y′ z′ : ℕ} {T U : List ℕ} → x ≡ x′ → y ≡ y′ → z ≡ z′ → RowPut x y z T U → RowPut x′ y′ z′ T U
-same-cells p q r h = rw (← p, ← q, ← r) h
+-- the row that a walk comes to, at the byte that was found: it can be put in, and is one row more
+module _ (b : List ℕ) (begin from k : ℕ) {at : ℕ} (e : at ≡ cellPlace begin (from + k) 0) where
+  pub row-there : {word : ℕ} → Readable b begin from word → bit k word ≡ true → RowAt b at
+  row-there h m = let first = ap (byteAt b) e in record { there = omega (arith, e, h .there k m); first = rw first (h .cell k 0 m (omega arith)) }
+
+  pub row-tabled : {word left rest : ℕ} {T U Y : List ℕ} → Part left word → Cleared left rest k → Tabled (λ i j. cellAt b begin (from + i) j) (passed word left) T U
+      → RowPut (byteAt b at) (byteAt b (at + 1)) (byteAt b (at + 2)) U Y → Tabled (λ i j. cellAt b begin (from + i) j) (passed word rest) T Y × Part rest word
+  row-tabled p c t q =
+      (tabled-more k (passed-turn p c) t (rw (← ap (byteAt b) e, ← row-cell b begin (from + k) 1 e, ← row-cell b begin (from + k) 2 e) q), part-cleared c p)
+
+-- no row is left
+pub all-tabled : {cell : ℕ → ℕ → ℕ} (word : ℕ) {left : ℕ} {T U : List ℕ} → left ≡ 0 → Tabled cell (passed word left) T U → Tabled cell (λ k. bit k word) T U
+all-tabled word e t = tabled-same (λ k. ap (λ (m : ℕ). passed word m k) e ∙ passed-end word k) t
 
 -- ---- the rows of a sheet, word by word
 -- the rows at positions below p are in the table, and what is in it beside T is of rows that are set

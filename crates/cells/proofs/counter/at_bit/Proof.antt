@@ -2,7 +2,7 @@ use mathlib.Core.Path.{_≡_, refl, sym}
 use Prim.Native.Nat.{_*_, _+_, _/_}
 use native.Mathlib.Omega.{arith}
 use borrow.Author.Needs.{needs}
-use Rattle.cells.proofs.Stretches.{place-moved}
+use Rattle.cells.proofs.Stretches.{place-moved, row-moved}
 use Rattle.cells.proofs.counter.at_bit.Statement.{statement}
 use Rattle.cells.proofs.counter.at_bit.Tie as tie
 
@@ -19,7 +19,7 @@ returns c =
     record {
       counters = record {
         block-is = sym ends;
-        row-is = omega (arith, from, ends, more);
+        row-is = row-moved (64 * p .word) (p .block) (p .row) i (at-ended .ended .result) from ends refl;
         word-is = omega (arith, start .pre .1);
         bit-is = omega (arith, start .pre .1);
       };

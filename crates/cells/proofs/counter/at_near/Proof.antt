@@ -2,7 +2,7 @@ use mathlib.Core.Path.{_≡_, refl, sym}
 use Prim.Native.Nat.{_*_, _+_, _/_}
 use native.Mathlib.Omega.{arith}
 use borrow.Author.Needs.{needs}
-use Rattle.cells.proofs.Stretches.{place-along}
+use Rattle.cells.proofs.Stretches.{place-along, row-along}
 use Rattle.cells.proofs.counter.at_near.Statement.{statement}
 use Rattle.cells.proofs.counter.at_near.Tie as tie
 
@@ -17,7 +17,7 @@ returns c =
     record {
       counters = record {
         block-is = sym ends;
-        row-is = omega (arith, from, ends, start .pre .2);
+        row-is = row-along (64 * p .word) (p .block) (p .row) i from ends refl;
         word-is = omega (arith, start .pre .1);
         bit-is = omega (arith, start .pre .1);
       };

@@ -1,15 +1,11 @@
-use mathlib.Core.Path.{_∙_, ap}
-use native.Mathlib.Omega.{arith}
 use borrow.Author.Needs.{needs}
-use Prim.Native.Nat.{_*_, _+_, ℕ}
+use Prim.Native.Nat.{_*_, _+_}
 use Rattle.model.proofs.Masks.{cleared-at}
-use Rattle.fields.specs.Bytes.{byteAt}
 use Rattle.cells.specs.Cells.{cellAt}
-use Rattle.cells.proofs.Collects.{passed, passed-end, passed-start, passed-turn}
-use Rattle.cells.proofs.Stretches.{row-cell}
-use Rattle.cells.proofs.Walks.{Part, part-cleared, whole}
+use Rattle.cells.proofs.Collects.{passed, passed-start}
+use Rattle.cells.proofs.Walks.{Part, whole}
 use Rattle.cover.specs.Covers.{Tabled}
-use Rattle.cover.proofs.Tables.{same-cells, tabled-more, tabled-none, tabled-same}
+use Rattle.cover.proofs.Tables.{all-tabled, row-tabled, row-there, tabled-none}
 use Rattle.cover.proofs.table.put_near.Statement.{statement}
 use Rattle.cover.proofs.table.put_near.Tie as tie
 
@@ -35,10 +31,8 @@ put-row-requires c κs =
     let start : tie.Start Inv-loop μ-loop = search in
     let at-lowest : tie.After-lowest Inv-loop μ-loop = search in
     let at-step : tie.After-at-near Inv-loop μ-loop = search in
-    let e = at-lowest .before .before .loop .inv .1 .at _ (at-lowest .lowest .ensures .2) in
-    let z = at-step .at-near .ensures .place in
-    let first = ap (byteAt (start .args .book .now)) z in
-    (record { there = omega (arith, z, start .pre .1 .there _ e); first = rw first (start .pre .1 .cell _ 0 e (omega arith)) }, at-lowest .before .before .loop .inv .0 .table)
+    let inv = at-lowest .before .before .loop .inv in
+    (row-there (start .args .book .now) (start .args .p .begin) (64 * start .args .p .word) (at-lowest .lowest .result) (at-step .at-near .ensures .place) (start .pre .1) (inv .1 .at _ (at-lowest .lowest .ensures .2)), inv .0 .table)
 
 loop-again : tie.Need-loop-again Inv-loop μ-loop
 loop-again c =
@@ -46,18 +40,11 @@ loop-again c =
     let at-lowest : tie.After-lowest Inv-loop μ-loop = search in
     let at-step : tie.After-at-near Inv-loop μ-loop = search in
     let at-row : tie.After-put-row Inv-loop μ-loop = search in
-    let head = at-lowest .before .before in
-    let z = at-step .at-near .ensures .place in
-    let cleared = cleared-at (at-lowest .lowest .ensures .0) (c .without-lowest .ensures .0) in
-    let b = start .args .book .now in
-    let r = 64 * start .args .p .word + at-lowest .lowest .result in (
-      tabled-more (at-lowest .lowest .result) (passed-turn (head .loop .inv .1) cleared) (head .loop .inv .0)
-          (same-cells (ap (byteAt b) z) (row-cell b _ r 1 z) (row-cell b _ r 2 z) (at-row .put-row .ensures)),
-      part-cleared cleared (head .loop .inv .1),
-    )
+    let inv = at-lowest .before .before .loop .inv in
+    row-tabled (start .args .book .now) (start .args .p .begin) (64 * start .args .p .word) (at-lowest .lowest .result) (at-step .at-near .ensures .place) (inv .1) (cleared-at (at-lowest .lowest .ensures .0) (c .without-lowest .ensures .0)) (inv .0) (at-row .put-row .ensures)
 
 returns : tie.Need-returns Inv-loop μ-loop
-returns c = let start : tie.Start Inv-loop μ-loop = search in tabled-same (λ k. ap (λ (m : ℕ). passed (start .args .word) m k) (c .loop-test .left) ∙ passed-end _ k) (c .before .loop .inv .0)
+returns c = let start : tie.Start Inv-loop μ-loop = search in all-tabled (start .args .word) (c .loop-test .left) (c .before .loop .inv .0)
 
 pub put-near-spec : {M : Type 1} → statement M
 put-near-spec =

@@ -1,15 +1,15 @@
 -- The worked examples, by computation. A wrong definition shows here first. Assumes nothing.
 use mathlib.Core.Path.{refl}
 use Rattle.heads.proofs.Acceptance.{computing as head-computing}
-use Rattle.book.specs.Rows.{blocksOf, firstBlock, blocksNeeded, rowPlace, isValue, boundOf, isWrong, wrongByte, wrongBlock, wrongSheet, kindOf, faultAt, faultInBlock, faultInSheet, firstFault}
-use Rattle.book.specs.Verdicts.{verdict, checkResult}
+use Rattle.book.specs.Rows.{anyPlaces, blocksOf, fallPlace, falls, fallsIn, firstBlock, firstFall, blocksNeeded, rowPlace, isValue, boundOf, isWrong, wrongByte, wrongBlock, wrongSheet, kindOf, faultAt, faultInBlock, faultInSheet, firstFault}
+use Rattle.book.specs.Verdicts.{orderVerdict, verdict, checkResult}
 use Rattle.book.specs.Places.{placeSheet, placeRow, wrongCell, placeByte, placeColumn}
 use Rattle.book.specs.Decoding.{rowOf, sheetOf, bookOf}
-use Rattle.book.specs.Acceptance.{sealed, AnyFacts, HarbourFacts, NumberFacts, PlaceFacts, RowFacts}
+use Rattle.book.specs.Acceptance.{sealed, AnyFacts, ForbiddenFacts, HarbourFacts, NumberFacts, PlaceFacts, RowFacts}
 
 -- opens every definition that an example computes with; where one is missing, the example fails uncomputed, and not with `true` against `false`
 unfoldable pub computing : Unit {0}
-unfolding head-computing blocksOf firstBlock blocksNeeded rowPlace isValue boundOf isWrong wrongByte wrongBlock wrongSheet kindOf faultAt faultInBlock faultInSheet firstFault verdict checkResult placeSheet placeRow wrongCell placeByte placeColumn rowOf sheetOf bookOf sealed
+unfolding head-computing anyPlaces falls fallsIn fallPlace firstFall orderVerdict blocksOf firstBlock blocksNeeded rowPlace isValue boundOf isWrong wrongByte wrongBlock wrongSheet kindOf faultAt faultInBlock faultInSheet firstFault verdict checkResult placeSheet placeRow wrongCell placeByte placeColumn rowOf sheetOf bookOf sealed
 computing = tt
 
 pub harbourFacts : HarbourFacts
@@ -81,4 +81,29 @@ placeFacts = record {
   second-byte = refl;
   after-any = refl;
   second-column = refl;
+}
+
+pub forbiddenFacts : ForbiddenFacts
+unfolding computing
+forbiddenFacts = record {
+  first = refl;
+  last = refl;
+  large-kind = refl;
+  value-31 = refl;
+  value-32 = refl;
+  filler = refl;
+  filler-kind = refl;
+  unused-kind = refl;
+  decoded = refl;
+  rises = refl;
+  equal = refl;
+  lower = refl;
+  row-0 = refl;
+  first-byte = refl;
+  last-byte = refl;
+  next-block = refl;
+  next-above = refl;
+  plain = refl;
+  forbidden = refl;
+  place = refl;
 }

@@ -21,7 +21,7 @@ use Rattle.heads.specs.Blocks.{word, blockAt}
 use Rattle.book.specs.Bounds.{anyHigh, belowBounds, joined, overBounds, raisedRow, slackOf, turnOf, turned, turnedRow, BoundedSheet, Clears, SmallBounds, fourth, placeBound, usedRows, wrongIn}
 use Rattle.heads.specs.Limits.{setAt}
 use Rattle.heads.specs.Heads.{rowsOf, widthOf}
-use Rattle.book.specs.Rows.{blocksOf, boundOf, firstBlock, isValue, isWrong, rowPlace, wrongBlock, wrongByte, overAt}
+use Rattle.book.specs.Rows.{anyPlaces, blocksOf, boundOf, firstBlock, isValue, isWrong, rowPlace, wrongBlock, wrongByte, overAt}
 use Rattle.heads.proofs.Blocks.{block-byte}
 use Rattle.heads.proofs.Limits.{set-leb}
 use Rattle.book.proofs.Words.{below-each, by-bytes, either-bytes, high-bytes, high-each, high-or, high-over, high-zero, joined-bit, joined-le, joined-lt, minus-bytes, one-small, plain-over, raised-bytes, turn-over, turned-bytes}
@@ -263,7 +263,7 @@ doubt-wrong w x y z k n i block e = go (below i n)
 
 -- ---- block q of sheet s
 -- a byte of a used row, and of one that is not
-pub wrong-used : (b : List ℕ) (s r j x : ℕ) → r < rowsOf b s → isWrong b s r j x ≡ overAt (ltb j (widthOf b s)) (placeBound b s j) x
+pub wrong-used : (b : List ℕ) (s r j x : ℕ) → r < rowsOf b s → isWrong b s r j x ≡ overAt (ltb j (anyPlaces b s)) (placeBound b s j) x
 unfolding isWrong boundOf isValue placeBound
 wrong-used b s r j x p = rw (lt-ltb r (rowsOf b s) p)
 
@@ -298,7 +298,7 @@ module _ (b : List ℕ) (s q : ℕ) (there : 512 * (firstBlock b s + q) + 512 �
 
   -- byte i is wrong, as the code looks at it
   abbrev seenWrong : ℕ → Bool
-  seenWrong = wrongIn (placeBound b s 0) (placeBound b s 1) (placeBound b s 2) (placeBound b s 3) (widthOf b s) (blockAt b (firstBlock b s + q)) (4 * usedRows (rowsOf b s) q)
+  seenWrong = wrongIn (placeBound b s 0) (placeBound b s 1) (placeBound b s 2) (placeBound b s 3) (anyPlaces b s) (blockAt b (firstBlock b s + q)) (4 * usedRows (rowsOf b s) q)
 
   same-byte : (i : ℕ) → i < 508 → seenWrong i ≡ wrongByte b s q i
   unfolding wrongIn wrongByte

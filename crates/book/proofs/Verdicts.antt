@@ -13,11 +13,12 @@ use Rattle.model.proofs.Firsts.{firstIn-lowest, lowest-firstIn, lowest-none, no
 use Rattle.model.proofs.Tests.{either, or-false-l, or-false-r}
 use Rattle.heads.specs.Blocks.{RightChecks, RightLength, blockCount, firstWrongCheck, wrongCheck, wrongLength}
 use Rattle.heads.specs.Heads.{RightHead, columnsOf, firstWrongField, sheetsOf, wrongField}
-use Rattle.book.specs.Rows.{RowFault, blocksNeeded, blocksOf, clean, fault, faultAt, firstBlock, firstFault, isValue, kindOf, notZero, tooLarge}
-use Rattle.book.specs.Verdicts.{checkResult, numberOf, refused, rowVerdict, verdict}
-use Rattle.book.specs.Bounds.{SheetThere, faultNumber}
+use Rattle.book.specs.Rows.{RowFault, blocksNeeded, blocksOf, clean, fault, faultAt, firstBlock, firstFall, firstFault, isValue, kindOf, notZero, tooLarge}
+use Rattle.book.specs.Verdicts.{checkResult, numberOf, orderVerdict, refused, rowVerdict, verdict}
+use Rattle.book.specs.Bounds.{SheetThere, fallNumber, faultNumber}
 use Rattle.heads.proofs.Limits.{in-range}
 use Rattle.heads.proofs.Heads.{sheets-most}
+use Rattle.book.proofs.Rises.{none-fall}
 use Rattle.book.proofs.Rows.{blocks-most, firstBlock-later}
 
 -- a right length is that of 1 to 33 blocks
@@ -68,8 +69,21 @@ module _ (b : List ℕ) where
               go clean k = absurd (k refl)
               go (fault offset kind) k = refl
 
-          pub result-accepted : firstFault b ≡ clean → checkResult b ≡ columnsOf b * 16 + sheetsOf b
-          result-accepted h = result-rows ∙ rw h
+          module _ (h5 : firstFault b ≡ clean) where
+            result-clean : checkResult b ≡ numberOf (orderVerdict b)
+            result-clean = result-rows ∙ rw h5
+
+            pub result-order : (fallNumber b ≡ 0 → ⊥) → checkResult b ≡ fallNumber b
+            unfolding orderVerdict fallNumber
+            result-order h = result-clean ∙ go (either (ltb (firstFall b) (sheetsOf b)))
+              where
+                go : (ltb (firstFall b) (sheetsOf b) ≡ true) ⊎ (ltb (firstFall b) (sheetsOf b) ≡ false) → numberOf (orderVerdict b) ≡ fallNumber b
+                go (inl e) = rw e
+                go (inr e) = let z : fallNumber b ≡ 0 = rw e in absurd (h z)
+
+            pub result-accepted : fallNumber b ≡ 0 → checkResult b ≡ columnsOf b * 16 + sheetsOf b
+            unfolding orderVerdict
+            result-accepted h = result-clean ∙ rw (none-fall b h)
 
 -- ---- the number of a fault
 module _ (b : List ℕ) (s q i : ℕ) where

@@ -4,17 +4,18 @@
 use mathlib.Core.Path.{_≡_}
 use mathlib.Core.Bool.{true, false}
 use mathlib.Core.List.{List, [], _∷_, _++_}
+use lib.Dec.{ltb}
 use Prim.Native.Nat.{ℕ, suc}
 use lib.ListN.{set}
 use Rattle.fields.specs.Bytes.{wordBytes}
 use Rattle.model.specs.Acceptance.{H}
 use Rattle.heads.specs.Acceptance.{head, padded}
 use Rattle.heads.specs.Blocks.{checkOf}
-use Rattle.book.specs.Rows.{blocksOf, blocksNeeded, rowPlace, isWrong, wrongByte, tooLarge, notZero, fault, kindOf}
+use Rattle.book.specs.Rows.{blocksOf, blocksNeeded, fallPlace, falls, fallsIn, rowPlace, isWrong, wrongByte, stringAt, tooLarge, notZero, fault, kindOf}
 use Rattle.book.specs.Verdicts.{refused}
 use Rattle.book.specs.Places.{placeByte, placeColumn, placeRow, placeSheet}
 use Rattle.book.specs.Bounds.{faultNumber}
-use Rattle.book.specs.Decoding.{bookOf, rowOf}
+use Rattle.book.specs.Decoding.{bookOf, rowOf, sheetOf}
 
 -- ---- books as bytes
 -- blocks n and on, each with its right check
@@ -101,6 +102,40 @@ pub record AnyFacts : Type 0 where
   pub unused : isWrong anyHead 0 4 0 255 ≡ true
   pub unused-kind : kindOf anyHead 0 4 0 ≡ notZero
   pub decoded : rowOf (both (set bothRows 4 255)) 0 1 ≡ 255 ∷ []
+
+-- sheet 0 of the same head as a forbidden one, of two columns; and the book of one column and rows 0 and 1, its sheet forbidden
+abbrev pub clashHead : List ℕ
+clashHead = set anyHead 24 130
+
+abbrev pub clash : List ℕ → List ℕ
+clash rows = sealed 0 (set bothHead 24 129 ∷ rows ∷ [])
+
+-- in a forbidden sheet "255 is refused with 5"; in filler it stays a fault of its own
+pub record ForbiddenFacts : Type 0 where
+  pub first : isWrong clashHead 0 0 0 255 ≡ true
+  pub last : isWrong clashHead 0 3 1 255 ≡ true
+  pub large-kind : kindOf clashHead 0 3 1 ≡ tooLarge
+  pub value-31 : isWrong clashHead 0 3 1 31 ≡ false
+  pub value-32 : isWrong clashHead 0 3 1 32 ≡ true
+  pub filler : isWrong clashHead 0 3 2 255 ≡ true
+  pub filler-kind : kindOf clashHead 0 3 2 ≡ notZero
+  pub unused-kind : kindOf clashHead 0 4 0 ≡ notZero
+  pub decoded : sheetOf (clash bothRows) 0 ≡ record { forbids = true; columns = 0 ∷ []; rows = (0 ∷ []) ∷ (1 ∷ []) ∷ [] }
+  -- "Its rows rise strictly as byte strings": 0 and 1 do, an equal row and a lower one do not, and the first has none before it
+  pub rises : falls (clash bothRows) 0 1 ≡ false
+  pub equal : falls (clash (set bothRows 0 1)) 0 1 ≡ true
+  pub lower : falls (clash (set (set bothRows 0 1) 4 0)) 0 1 ≡ true
+  pub row-0 : falls (clash bothRows) 0 0 ≡ false
+  -- the first byte counts most
+  pub first-byte : ltb (stringAt (0 ∷ 255 ∷ 255 ∷ 255 ∷ 1 ∷ 0 ∷ 0 ∷ 0 ∷ []) 0) (stringAt (0 ∷ 255 ∷ 255 ∷ 255 ∷ 1 ∷ 0 ∷ 0 ∷ 0 ∷ []) 4) ≡ true
+  pub last-byte : ltb (stringAt (7 ∷ 3 ∷ 2 ∷ 0 ∷ 7 ∷ 3 ∷ 2 ∷ 1 ∷ []) 0) (stringAt (7 ∷ 3 ∷ 2 ∷ 0 ∷ 7 ∷ 3 ∷ 2 ∷ 1 ∷ []) 4) ≡ true
+  -- over a block's end too: row 126 is a zero, and so is row 127
+  pub next-block : falls (set (longRows 0) 24 129) 0 127 ≡ true
+  pub next-above : falls (set (longRows 1) 24 129) 0 127 ≡ false
+  -- a sheet that allows its rows has them in any order; a forbidden one has the first that falls
+  pub plain : fallsIn (both (set bothRows 0 1)) 0 ≡ false
+  pub forbidden : fallsIn (clash (set bothRows 0 1)) 0 ≡ true
+  pub place : fallPlace (clash (set bothRows 0 1)) 0 ≡ 516
 
 -- "The place is the offset in the whole file divided by 4, rounded down": bytes 516 to 519 are one row; the last byte that can be at fault. Faults in whole
 -- books are worked in crate examples

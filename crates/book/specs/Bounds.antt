@@ -11,10 +11,10 @@ use Rattle.model.specs.Masks.{bit}
 use Rattle.model.specs.Tests.{NoneIn, oneIf}
 use Rattle.heads.specs.Blocks.{word}
 use Rattle.fields.specs.Bytes.{byteAt}
-use Rattle.heads.specs.Heads.{columnOf, valuesOf, widthOf}
+use Rattle.heads.specs.Heads.{columnOf, sheetsOf, valuesOf, widthOf}
 use Rattle.heads.specs.Limits.{setAt}
-use Rattle.book.specs.Rows.{RowFault, blocksOf, clean, fault, firstBlock, overAt}
-use Rattle.book.specs.Verdicts.{faultVerdict, numberOf}
+use Rattle.book.specs.Rows.{RowFault, anyPlaces, blocksOf, clean, fallPlace, fallsIn, fault, firstBlock, firstFall, overAt, rowPlace, stringAt}
+use Rattle.book.specs.Verdicts.{faultVerdict, numberOf, refused}
 
 -- ---- a block and its bounds
 -- what byte j of a used row of sheet s has to be below
@@ -29,7 +29,7 @@ fourth w x y z j = cond (eqb j 0) w (cond (eqb j 1) x (cond (eqb j 2) y z))
 abbrev pub usedRows : ℕ → ℕ → ℕ
 usedRows n q = cond (ltb (n - 127 * q) 127) (n - 127 * q) 127
 
--- byte i of a block is wrong where its rows' bytes, of which the first k are values, have to be below w, x, y, z, and its first n bytes are those
+-- byte i of a block is wrong where its rows' bytes, at the first k of which 255 passes, have to be below w, x, y, z, and its first n bytes are those
 -- of used rows. A first look takes 0 for k, so that 255 is wrong too
 unfoldable pub wrongIn : ℕ → ℕ → ℕ → ℕ → ℕ → List ℕ → ℕ → ℕ → Bool
 wrongIn w x y z k block n i = cond (ltb i n) (overAt (ltb (i % 4) k) (fourth w x y z (i % 4)) (byteAt block i)) (setAt block i)
@@ -40,13 +40,13 @@ overBounds w x y z k block r =
     overAt (ltb 0 k) w (byteAt block (4 * r))
     || (overAt (ltb 1 k) x (byteAt block (4 * r + 1)) || (overAt (ltb 2 k) y (byteAt block (4 * r + 2)) || overAt (ltb 3 k) z (byteAt block (4 * r + 3))))
 
--- w, x, y, z are the bounds of the bytes of a used row of sheet s, and the first k of these are values
+-- w, x, y, z are the bounds of the bytes of a used row of sheet s, and 255 passes at the first k of these
 pub record RowBounds (b : List ℕ) (s w x y z k : ℕ) : Type 0 where
   pub first : w ≡ placeBound b s 0
   pub second : x ≡ placeBound b s 1
   pub third : y ≡ placeBound b s 2
   pub last : z ≡ placeBound b s 3
-  pub values : k ≡ widthOf b s
+  pub values : k ≡ anyPlaces b s
 
 -- none of them is 0, and none is above 127
 pub record SmallBounds (w x y z : ℕ) : Type 0 where
@@ -119,3 +119,16 @@ turnedRow o slack block r = anyHigh (turned o (word block r)) || anyHigh ((turne
 abbrev pub faultNumber : RowFault → ℕ
 faultNumber clean = 0
 faultNumber (fault offset kind) = numberOf (faultVerdict offset kind)
+
+-- ---- rows that do not rise
+-- one more than the row before row r of sheet s as a byte string, or 0 for the first: row r is above it exactly when one more than row r is
+abbrev pub stringBefore : List ℕ → ℕ → ℕ → ℕ
+stringBefore b s r = cond (eqb r 0) 0 (stringAt b (rowPlace b s (r - 1)) + 1)
+
+-- the refusal for the first such row of sheet s, or 0 where there is none
+unfoldable pub sheetFall : List ℕ → ℕ → ℕ
+sheetFall b s = cond (fallsIn b s) (refused 7 (fallPlace b s / 4)) 0
+
+-- the same of the book
+unfoldable pub fallNumber : List ℕ → ℕ
+fallNumber b = cond (ltb (firstFall b) (sheetsOf b)) (refused 7 (fallPlace b (firstFall b) / 4)) 0

@@ -6,7 +6,7 @@ use lib.ListN.{length}
 use Rattle.model.specs.Books.{Book, Sheet, WellFormed, columnCount}
 use Rattle.model.specs.Tests.{tab}
 use Rattle.fields.specs.Bytes.{byteAt}
-use Rattle.heads.specs.Heads.{columnOf, columnsOf, rowsOf, sheetsOf, valuesOf, widthOf}
+use Rattle.heads.specs.Heads.{columnOf, columnsOf, forbidsOf, rowsOf, sheetsOf, valuesOf, widthOf}
 use Rattle.book.specs.Rows.{rowPlace}
 use Rattle.book.specs.Verdicts.{Accepted, checkResult}
 
@@ -14,9 +14,9 @@ use Rattle.book.specs.Verdicts.{Accepted, checkResult}
 unfoldable pub rowOf : List ℕ → ℕ → ℕ → List ℕ
 rowOf b s r = tab (widthOf b s) (λ j. byteAt b (rowPlace b s r + j))
 
--- sheet s: the columns of its entry, and its rows
+-- sheet s: its mark and the columns of its entry, and its rows
 unfoldable pub sheetOf : List ℕ → ℕ → Sheet
-sheetOf b s = record { columns = tab (widthOf b s) (columnOf b s); rows = tab (rowsOf b s) (rowOf b s) }
+sheetOf b s = record { forbids = forbidsOf b s; columns = tab (widthOf b s) (columnOf b s); rows = tab (rowsOf b s) (rowOf b s) }
 
 -- the book: V of each of the C columns, and the S sheets
 unfoldable pub bookOf : List ℕ → Book

@@ -1,12 +1,12 @@
--- The rows of the sheets: where they stand, and the first fault in them.
+-- The rows of the sheets: where they stand, the first fault in them, and the first row of a forbidden sheet that does not rise.
 use mathlib.Core.Bool.{Bool, cond, not, _&&_}
 use mathlib.Core.List.{List}
-use Prim.Native.Nat.{ℕ, _+_, _*_, _/_, _%_}
-use lib.Dec.{ltb, leb}
+use Prim.Native.Nat.{ℕ, _+_, _*_, _-_, _/_, _%_}
+use lib.Dec.{eqb, ltb, leb}
 use Rattle.model.specs.Books.{isAny}
 use Rattle.model.specs.Tests.{anyBelow, lowest, sum}
 use Rattle.fields.specs.Bytes.{byteAt}
-use Rattle.heads.specs.Heads.{columnOf, rowsOf, sheetsOf, valuesOf, widthOf}
+use Rattle.heads.specs.Heads.{columnOf, forbidsOf, rowsOf, sheetsOf, valuesOf, widthOf}
 
 -- ---- where rows stand
 -- "Each sheet in turn then has as many blocks as n / 127 rounded up."
@@ -34,13 +34,17 @@ isValue b s r j = ltb r (rowsOf b s) && ltb j (widthOf b s)
 unfoldable pub boundOf : List ℕ → ℕ → ℕ → ℕ → ℕ
 boundOf b s r j = cond (isValue b s r j) (valuesOf b (columnOf b s j)) 1
 
--- byte x is over its bound m: not below it, and not 255 where it is a value. "Refusal 5 lets 255 pass."
+-- the places of a used row of sheet s at which 255 passes are those below this: "Refusal 5 lets 255 pass."; in a forbidden sheet "255 is refused with 5"
+unfoldable pub anyPlaces : List ℕ → ℕ → ℕ
+anyPlaces b s = cond (forbidsOf b s) 0 (widthOf b s)
+
+-- byte x is over its bound m: not below it, and not a 255 that passes
 abbrev pub overAt : Bool → ℕ → ℕ → Bool
-overAt value m x = leb m x && not (value && isAny x)
+overAt passes m x = leb m x && not (passes && isAny x)
 
 -- byte j of row r of sheet s is wrong where it is x
 unfoldable pub isWrong : List ℕ → ℕ → ℕ → ℕ → ℕ → Bool
-isWrong b s r j x = overAt (isValue b s r j) (boundOf b s r j) x
+isWrong b s r j x = overAt (ltb r (rowsOf b s) && ltb j (anyPlaces b s)) (boundOf b s r j) x
 
 -- byte i of block q of sheet s, i < 508, is wrong: it belongs to row 127 q + i / 4
 unfoldable pub wrongByte : List ℕ → ℕ → ℕ → ℕ → Bool
@@ -84,3 +88,24 @@ faultInSheet b s = faultInBlock b s (lowest (blocksOf b s) (wrongBlock b s))
 -- "the first fault in file order": sheet by sheet, block by block, byte by byte
 unfoldable pub firstFault : List ℕ → RowFault
 firstFault b = cond (ltb (lowest (sheetsOf b) (wrongSheet b)) (sheetsOf b)) (faultInSheet b (lowest (sheetsOf b) (wrongSheet b))) clean
+
+-- ---- rows that do not rise
+-- four bytes as a byte string: as one number, in which the first byte counts most
+abbrev pub stringAt : List ℕ → ℕ → ℕ
+stringAt b i = byteAt b i * 16777216 + byteAt b (i + 1) * 65536 + byteAt b (i + 2) * 256 + byteAt b (i + 3)
+
+-- row r of sheet s is "not above the one before it in its sheet"
+unfoldable pub falls : List ℕ → ℕ → ℕ → Bool
+falls b s r = not (eqb r 0) && leb (stringAt b (rowPlace b s r)) (stringAt b (rowPlace b s (r - 1)))
+
+-- sheet s is a forbidden one with such a row: "Its rows rise strictly as byte strings"
+unfoldable pub fallsIn : List ℕ → ℕ → Bool
+fallsIn b s = forbidsOf b s && anyBelow (rowsOf b s) (falls b s)
+
+-- the byte at which the first such row of sheet s begins
+unfoldable pub fallPlace : List ℕ → ℕ → ℕ
+fallPlace b s = rowPlace b s (lowest (rowsOf b s) (falls b s))
+
+-- the first sheet with one, or S
+unfoldable pub firstFall : List ℕ → ℕ
+firstFall b = lowest (sheetsOf b) (fallsIn b)

@@ -6,11 +6,14 @@
 //   row      the sheets' blocks: how many, and the first with a wrong byte
 //   doubt    a first look at them, which is enough for a right book without 255
 //   fault    that byte, and the refusal for it
+//   rise     the first row of a forbidden sheet that does not rise, and the refusal for it
 pub mod doubt;
 pub mod fault;
+pub mod rise;
 pub mod row;
 
 use crate::fault::*;
+use crate::rise::*;
 use crate::row::*;
 use heads::block::*;
 use heads::head::*;
@@ -28,7 +31,7 @@ pub fn refusal(n: u64, place: usize) -> u64
     n * 65536 + (place as u64)
 }
 
-// Of a book whose length, checks and head are right: refusal 4, 5 or 6, or the accepted figure.
+// Of a book whose length, checks and head are right: refusal 4, 5, 6 or 7, or the accepted figure.
 fn check_rows(book: &[u8]) -> u64
     requires { ⌜ RightLength (now book) × RightChecks (now book) × RightHead (now book) ⌝ }
     ensures { λ r. ⌜ r ≡ checkResult (now (book .entry)) ⌝ }
@@ -40,6 +43,10 @@ fn check_rows(book: &[u8]) -> u64
     let n = first_fault(book);
     if n != 0 {
         return n;
+    }
+    let f = first_fall(book);
+    if f != 0 {
+        return f;
     }
     (columns(book) as u64) * 16 + (sheets(book) as u64)
 }

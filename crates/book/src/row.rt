@@ -26,7 +26,7 @@ ghost use lib.ListN.{length};
 ghost use Rattle.model.specs.Tests.{FirstIn, Finds, NoneIn, oneIf};
 ghost use Rattle.heads.specs.Blocks.{word};
 ghost use Rattle.heads.specs.Heads.{sheetsOf, RightHead};
-ghost use Rattle.book.specs.Rows.{blocksOf, firstBlock, blocksNeeded, wrongBlock, overAt};
+ghost use Rattle.book.specs.Rows.{anyPlaces, blocksOf, firstBlock, blocksNeeded, wrongBlock, overAt};
 ghost use Rattle.book.specs.Bounds.{fourth, placeBound, usedRows, wrongIn, overBounds, RowBounds, SmallBounds, SheetThere, BoundedSheet, joined, belowBounds, anyHigh, raisedRow, slackOf, SmallTurn, turnOf, turned, turnedRow};
 
 // The blocks of sheet s.
@@ -61,7 +61,7 @@ pub fn blocks_needed(h: &[u8]) -> usize
 
 // ---- the bounds of a sheet's rows
 
-// What the four bytes of a used row have to be below; the first k of them are values.
+// What the four bytes of a used row have to be below; at the first k of them 255 passes.
 pub struct Bounds {
     w: u8,
     x: u8,
@@ -82,6 +82,17 @@ fn place_bound(h: &[u8], s: usize, j: usize) -> u8
     1
 }
 
+// At how many places of a row 255 passes: at all of the width, but at none in a forbidden sheet.
+fn any_places(h: &[u8], s: usize) -> usize
+    requires { ⌜ (512 ≤ length (now h)) × (s < 8) ⌝ }
+    ensures { λ r. ⌜ r ≡ anyPlaces (now (h .entry)) s ⌝ }
+{
+    if forbids(h, s) {
+        return 0;
+    }
+    width(h, s)
+}
+
 // The bounds of sheet s, one of the S.
 pub fn bounds_of(h: &[u8], s: usize) -> Bounds
     requires { ⌜ (512 ≤ length (now h)) × RightHead (now h) × (s < sheetsOf (now h)) ⌝ }
@@ -92,7 +103,7 @@ pub fn bounds_of(h: &[u8], s: usize) -> Bounds
         x: place_bound(h, s, 1),
         y: place_bound(h, s, 2),
         z: place_bound(h, s, 3),
-        k: width(h, s),
+        k: any_places(h, s),
     }
 }
 
@@ -112,7 +123,7 @@ fn bound(m: Bounds, j: usize) -> u8
     m.z
 }
 
-// Whether byte x is over that bound: "Refusal 5 lets 255 pass."
+// Whether byte x is over that bound, and not a 255 that passes.
 pub fn over_bound(m: Bounds, j: usize, x: u8) -> bool
     ensures { λ r. ⌜ r ≡ overAt (ltb j (m .k)) (fourth (m .w) (m .x) (m .y) (m .z) j) x ⌝ }
 {
@@ -205,7 +216,7 @@ pub fn any_not_below(b: &[u8], m: Bounds) -> bool
 
 // ---- rows turned
 
-// What the turning of a row adds at place j: 1 to one of the k values, 0 elsewhere.
+// What the turning of a row adds at place j: 1 at one of the first k, 0 elsewhere.
 fn turn_at(k: usize, j: usize) -> u8
     ensures { λ r. ⌜ r ≡ oneIf (ltb j k) ⌝ }
 {

@@ -1,6 +1,7 @@
 -- The laws behind the walks, bottom-up: bits, walks over the rows of a word, the counters and the first stretch of a walk, values gathered; and the worked examples.
 pub mod Ones
 pub mod Walks
+pub mod Tallies
 pub mod Stretches
 pub mod Collects
 pub mod Acceptance

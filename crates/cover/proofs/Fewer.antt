@@ -11,21 +11,22 @@ use lib.Seq.{getD-set-other, getD-set-same}
 use lib.Count.{ones, ones-le, trailingZeros}
 use lib.ListN.{getD, length, length-replicate, length-set, replicate, set}
 use Rattle.model.specs.Books.{isAny}
-use Rattle.model.specs.Choices.{Takes}
+use Rattle.model.specs.Choices.{Takes, space}
 use Rattle.model.specs.Masks.{bit, size}
 use Rattle.model.specs.States.{ofSheet}
 use Rattle.model.specs.Stores.{IsStore, has}
 use Rattle.model.specs.Tests.{count, sum, tab}
 use Rattle.model.proofs.Books.{matches-plain}
 use Rattle.model.proofs.Masks.{bit-of-zero, bit-pow-only, cleared}
-use Rattle.model.proofs.Tallies.{count-more, count-most, count-ones, count-same, crowded, space}
+use Rattle.model.proofs.Tallies.{count-most, count-ones, crowded}
 use Rattle.model.proofs.Tests.{below, either, getD-tab, length-tab, positive}
 use Rattle.cells.specs.Cells.{SmallSets}
 use Rattle.heads.specs.Heads.{columnOf, widthOf}
-use Rattle.words.specs.Sheets.{AtSheet, SheetWords, ShortPlaces, Sized, Wanted, valueAt}
+use Rattle.words.specs.Sheets.{AtSheet, SheetWords, ShortPlaces, Wanted, rowsTo, valueAt}
 use Rattle.words.proofs.Gathers.{at-position}
+use Rattle.words.proofs.Indexes.{passes, rows-count}
 use Rattle.words.proofs.Places.{column-below, width-most}
-use Rattle.cover.specs.Covers.{AllMatched, ChosenFrom, FewValues, FilledSets, MatchedBy, SizesTo, plainChoices, plainIn, rowsTo}
+use Rattle.cover.specs.Covers.{AllMatched, ChosenFrom, FewValues, FilledSets, MatchedBy, SizesTo, plainChoices, plainIn}
 
 -- ---- the choices
 module _ (shorts : ℕ) (x : List ℕ) where
@@ -110,41 +111,6 @@ module _ {b : List ℕ} {begin s : ℕ} (a : AtSheet b begin s) (shorts : ℕ) (
       unused (suc k) n e l =
           sym (ap (λ (m : ℕ). plainChoices shorts x n * m) (one-value (bit (8 * n + 7) shorts) (getD x n 0) (w .rest n l (omega arith))) ∙ mul-one _)
           ∙ unused k (suc n) (omega arith) (omega arith)
-
--- ---- the rows, numbered by the position of their word in the index
--- one word more, as the code counts
-pub rows-next : (W X : List ℕ) (s p : ℕ) {w rows : ℕ} → w ≡ ofSheet X s p → rows ≡ rowsTo W X s p
-    → rows + ones (ofSheet W s w) ≡ rowsTo W X s (p + 1)
-unfolding rowsTo
-rows-next W X s p ew i = rw (add-one p, ew, i)
-
-module _ {W X N : List ℕ} (z : Sized W X N) (s : ℕ) where
-  -- number q is bit q % 64 of the word at position q / 64
-  abbrev passes : ℕ → Bool
-  passes q = bit (q % 64) (ofSheet W s (ofSheet X s (q / 64)))
-
-  rows-count : (n : ℕ) → count (64 * n) passes ≡ rowsTo W X s n
-  unfolding rowsTo count sum
-  rows-count zero = refl
-  rows-count (suc n) =
-      let e : 64 * suc n ≡ 64 * n + 64 = omega arith in
-      rw e
-      (count-more (64 * n) 64 passes
-      ∙ ap₂ _+_ (rows-count n) (count-same 64 (λ k. passes (64 * n + k)) (λ k. bit k word) same ∙ count-ones 64 word (z .bits (8 * s + ofSheet X s n))))
-    where
-      word : ℕ
-      word = ofSheet W s (ofSheet X s n)
-
-      same : (k : ℕ) → k < 64 → passes (64 * n + k) ≡ bit k word
-      same k l =
-          let p : (64 * n + k) % 64 ≡ k = omega arith in
-          let q : (64 * n + k) / 64 ≡ n = omega arith in
-          rw (p, q)
-
-  pub rows-most : (n : ℕ) → rowsTo W X s n ≤ 64 * n
-  unfolding rowsTo
-  rows-most zero = omega arith
-  rows-most (suc n) = omega (arith, rows-most n, ones-le 64 (ofSheet W s (ofSheet X s n)) (z .bits (8 * s + ofSheet X s n)))
 
 -- ---- every choice matched: no fewer rows than choices
 module _ {b : List ℕ} {begin s : ℕ} (a : AtSheet b begin s) {W X N : List ℕ} (h : SheetWords b s W X N) {shorts : ℕ} (c : ShortPlaces b s shorts)

@@ -1,35 +1,45 @@
 -- The sheet in the model's words: its choices are matched exactly when it is subsumed. Assumes nothing.
-use mathlib.Core.Path.{_∙_, _≡_, sym}
+use mathlib.Core.Path.{_∙_, _≡_, ap, sym}
 use mathlib.Core.Bool.{Bool, cond, false, false≢true, true}
 use mathlib.Core.Logic.{_⊎_, _↔_, inl, inr}
 use mathlib.Core.List.{List, []}
 use Prim.Native.Nat.{_%_, _*_, _+_, _/_, _<_, _^_, _≤_, ℕ}
 use native.Mathlib.Omega.{arith}
-use lib.Dec.{ltb}
+use lib.Dec.{eqb, ltb}
 use lib.ListN.{List·getD-eq-default, getD, length}
-use borrow.Author.Tests.{le-ltb, lt-ltb, ltb-true}
+use borrow.Author.Tests.{eqb-false, eqb-true, le-ltb, lt-ltb, ltb-true}
 use Rattle.model.specs.Answers.{Subsumed, subsumed}
-use Rattle.model.specs.Books.{Sheet, allows, matches, rowMatches, sheetAt}
+use Rattle.model.specs.Books.{Sheet, WellFormedSheet, allows, matches, rowMatches, sheetAt}
 use Rattle.model.specs.Choices.{Takes, pick}
 use Rattle.model.specs.Masks.{bit}
-use Rattle.model.specs.States.{validRow}
+use Rattle.model.specs.States.{ofSheet, validRow}
 use Rattle.model.specs.Stores.{IsStore, has}
 use Rattle.model.specs.Tests.{tab}
 use Rattle.model.proofs.Books.{allows-e, allows-i, matches-self}
 use Rattle.model.proofs.Choices.{length-pick, pick-e, pick-i}
-use Rattle.model.proofs.Masks.{bit-pow, bit-pow-only}
+use Rattle.model.proofs.Counting.{none-forbidden, some-forbidden}
+use Rattle.model.proofs.Masks.{bit-pow, bit-pow-only, some-bit}
 use Rattle.model.proofs.Rows.{at-place, in-list, matched-valid, row-matches-e, row-matches-i, word-row}
 use Rattle.model.proofs.Subsumptions.{subsumed-iff}
 use Rattle.model.proofs.Tests.{and-i, below, either, getD-tab, getD-tab-out, length-tab, same-test}
 use Rattle.book.specs.Decoding.{bookOf}
-use Rattle.heads.specs.Heads.{columnOf, rowsOf, widthOf}
-use Rattle.words.specs.Sheets.{AtSheet, SheetWords, ShortPlaces, Wanted, isSet, valueAt}
-use Rattle.words.proofs.Places.{column-value, columns-size, formed, row-value, rows-few, rows-size, sheet-in, unused-value, width-most}
-use Rattle.cover.specs.Covers.{AllMatched, ChosenFrom, FilledSets, MatchedBy, SettledSheet, SizesTo, TellsMatched, plainChoices, plainIn, rowsTo}
+use Rattle.heads.specs.Heads.{columnOf, forbidsOf, rowsOf, widthOf}
+use Rattle.words.specs.Sheets.{AtSheet, SheetWords, ShortPlaces, Wanted, isSet, rowsTo, valueAt}
+use Rattle.words.proofs.Cuts.{row-word}
+use Rattle.words.proofs.Gathers.{at-position}
+use Rattle.words.proofs.Places.{column-value, columns-size, formed, row-value, rows-few, rows-size, sheet-forbids, sheet-in, unused-value, valid-e, width-most}
+use Rattle.cover.specs.Covers.{AllMatched, ChosenFrom, FilledSets, MatchedBy, SettledSheet, SizesTo, TellsMatched, plainChoices, plainIn}
 use Rattle.cover.proofs.Fewer.{few-missed, plain-same}
 
+-- a row is set exactly when it is valid
+set-valid : {b : List ℕ} {s : ℕ} {D W : List ℕ} → SettledSheet b s D W → (r : ℕ) → r < 512 → isSet W s r ≡ validRow D (sheetAt (bookOf b) s) r
+unfolding isSet
+set-valid {b} {s} {D} k r l =
+    let z : 64 * (r / 64) + r % 64 ≡ r = omega arith in
+    ap (bit (r % 64)) (k .rows (r / 64) (omega arith)) ∙ word-row D (sheetAt (bookOf b) s) (r / 64) (r % 64) (omega arith) ∙ ap (validRow D (sheetAt (bookOf b) s)) z
+
 module _ {b : List ℕ} {begin s : ℕ} (a : AtSheet b begin s) {D W X N x : List ℕ} (d : IsStore 16 D) (h : SheetWords b s W X N) (k : SettledSheet b s D W)
-    (w : Wanted b s D (widthOf b s) x) where
+    (plain : forbidsOf b s ≡ false) (w : Wanted b s D (widthOf b s) x) where
   abbrev sheet : Sheet
   sheet = sheetAt (bookOf b) s
 
@@ -64,7 +74,7 @@ module _ {b : List ℕ} {begin s : ℕ} (a : AtSheet b begin s) {D W X N x : Lis
         let l = h .inside .at r (m .small) (m .set-row) in
         let n : r < length (sheet .rows) = omega (arith, rows-size a) in
         let wide : length (getD (sheet .rows) r []) ≡ length t = formed a .sheet sheet (sheet-in a) .row-size r n ∙ columns-size a ∙ sym size in
-        allows-i sheet (getD (sheet .rows) r []) t (in-list [] (sheet .rows) r n)
+        allows-i sheet (sheet-forbids a ∙ plain) (getD (sheet .rows) r []) t (in-list [] (sheet .rows) r n)
         (row-matches-i (getD (sheet .rows) r []) t wide
         (λ j p. let q : j < widthOf b s = omega (arith, size) in rw (row-value a r j l q) (m .cells j (omega (arith, width-most a .1)))))
 
@@ -83,17 +93,10 @@ module _ {b : List ℕ} {begin s : ℕ} (a : AtSheet b begin s) {D W X N x : Lis
           (rw (getD-tab 0 (widthOf b s) t j p, column-value a j p, ← w .at j p) (c .each j (omega (arith, width-most a .1))));
     }
 
-    -- a row that is valid is set
-    set-valid : (r : ℕ) → r < rowsOf b s → validRow D sheet r ≡ true → isSet W s r ≡ true
-    unfolding isSet
-    set-valid r l e =
-        let z : 64 * (r / 64) + r % 64 ≡ r = omega arith in
-        rw (k .rows (r / 64) (omega (arith, rows-few a)), word-row D sheet (r / 64) (r % 64) (omega arith), z) e
-
     matched : allows sheet tuple ≡ true → MatchedBy b s W t
     unfolding validRow
     matched e =
-        let m = allows-e sheet tuple e in
+        let m = allows-e sheet (sheet-forbids a ∙ plain) tuple e in
         let i = at-place [] (m .0) (sheet .rows) (m .1) in
         let r = i .0 in
         let l : r < rowsOf b s = omega (arith, rows-size a, i .1) in
@@ -102,7 +105,7 @@ module _ {b : List ℕ} {begin s : ℕ} (a : AtSheet b begin s) {D W X N x : Lis
         record {
           row = r;
           small = omega (arith, rows-few a);
-          set-row = set-valid r l valid-row;
+          set-row = set-valid k r (omega (arith, rows-few a)) ∙ valid-row;
           cells = λ j p. cells r l (m .0) (i .2) (m .2) j p (below j (widthOf b s));
         }
       where
@@ -156,8 +159,49 @@ wanted-list {b} {begin} {s} a {D} d = record {
     fits j (inr l) = rw (getD-tab-out 4 sets j l) (omega arith)
 
 -- with fewer rows than choices the sheet is not subsumed
-pub few-rows : {b : List ℕ} {begin s : ℕ} (a : AtSheet b begin s) {D W X N Z : List ℕ} → IsStore 16 D → SheetWords b s W X N → SettledSheet b s D W → SizesTo D 16 Z
-    → {shorts : ℕ} → ShortPlaces b s shorts → ltb (rowsTo W X s (getD N s 0)) (plainIn b s shorts Z (widthOf b s)) ≡ true
+pub few-rows : {b : List ℕ} {begin s : ℕ} (a : AtSheet b begin s) {D W X N Z : List ℕ} → IsStore 16 D → SheetWords b s W X N → SettledSheet b s D W → forbidsOf b s ≡ false
+    → SizesTo D 16 Z → {shorts : ℕ} → ShortPlaces b s shorts → ltb (rowsTo W X s (getD N s 0)) (plainIn b s shorts Z (widthOf b s)) ≡ true
     → false ≡ subsumed D (sheetAt (bookOf b) s)
-few-rows a {Z = Z} d h k z {shorts} c e =
-    few-subsumed a d h k (wanted-list a d) c (rw (plain-same a shorts Z z (wanted-list a d)) at e)
+few-rows a {Z = Z} d h k plain z {shorts} c e =
+    few-subsumed a d h k plain (wanted-list a d) c (rw (plain-same a shorts Z z (wanted-list a d)) at e)
+
+-- ---- a sheet that forbids its rows: no row is set exactly when no word is
+pub forbidden-covered : {b : List ℕ} {begin s : ℕ} (a : AtSheet b begin s) {D W X N : List ℕ} {n : ℕ} → IsStore 16 D → SheetWords b s W X N → SettledSheet b s D W
+    → forbidsOf b s ≡ true → n ≡ getD N s 0 → eqb n 0 ≡ subsumed D (sheetAt (bookOf b) s)
+unfolding isSet
+forbidden-covered {b} {begin} {s} a {D} {W} {X} {N} {n} d h k f e = same-test _ _ (λ t. i .1 (none-forbidden D (bookOf b .counts) sheet formed-sheet few (d .bits) forbids (none t))) (λ t. empty (i .0 t) (either (eqb n 0)))
+  where
+    sheet : Sheet
+    sheet = sheetAt (bookOf b) s
+
+    i : (subsumed D (sheetAt (bookOf b) s) ≡ true) ↔ Subsumed D (sheetAt (bookOf b) s)
+    i = subsumed-iff D (d .bits) (sheetAt (bookOf b) s)
+
+    formed-sheet : WellFormedSheet (bookOf b .counts) (sheetAt (bookOf b) s)
+    formed-sheet = formed a .sheet _ (sheet-in a)
+
+    few : (c : ℕ) → c < length (bookOf b .counts) → getD (bookOf b .counts) c 0 ≤ 32
+    few = formed a .few-values
+
+    forbids : sheetAt (bookOf b) s .forbids ≡ true
+    forbids = sheet-forbids a ∙ f
+
+    -- no word is left, so no row is
+    none : eqb n 0 ≡ true → (r : ℕ) → validRow D (sheetAt (bookOf b) s) r ≡ true → ⊥
+    none t r v =
+        let l : r < 512 = omega (arith, valid-e a D r v .0, rows-few a) in
+        let z : n ≡ 0 = eqb-true n 0 t in
+        let q = at-position a h r l (set-valid k r l ∙ v) in
+        omega (arith, q .1)
+
+    -- a word that is left has a row
+    empty : Subsumed D (sheetAt (bookOf b) s) → (eqb n 0 ≡ true) ⊎ (eqb n 0 ≡ false) → eqb n 0 ≡ true
+    empty u (inl t) = t
+    empty u (inr t) =
+        let ne : n ≡ 0 → ⊥ = eqb-false n 0 t in
+        let w = ofSheet X s 0 in
+        let m : w < 8 = h .indexed .each 0 (omega arith) in
+        let p = some-bit 64 (ofSheet W s w) (h .sized .bits (8 * s + w)) (h .indexed .limit 0 (omega arith) .0 (omega arith)) in
+        let r = 64 * w + p .0 in
+        let l : r < 512 = omega (arith, m, p .1) in
+        absurd (some-forbidden D (bookOf b .counts) (sheetAt (bookOf b) s) formed-sheet few (d .bits) forbids u r (sym (set-valid k r l) ∙ row-word W s w (p .0) (p .1) ∙ p .2))

@@ -65,11 +65,6 @@ unfoldable pub plainIn : List ℕ → ℕ → ℕ → List ℕ → ℕ → ℕ
 plainIn b s shorts Z zero = 1
 plainIn b s shorts Z (suc n) = plainIn b s shorts Z n * cond (bit (8 * n + 7) shorts) 1 (getD Z (columnOf b s n) 0)
 
--- how many rows of sheet s are set in the words at the positions below n of its index
-unfoldable pub rowsTo : List ℕ → List ℕ → ℕ → ℕ → ℕ
-rowsTo W X s zero = 0
-rowsTo W X s (suc n) = rowsTo W X s n + ones (ofSheet W s (ofSheet X s n))
-
 -- ---- the table
 --
 --              slot of place 1:   0      1      ..   31     32

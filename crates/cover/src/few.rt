@@ -8,8 +8,8 @@ ghost use lib.Dec.{ltb};
 ghost use lib.ListN.{getD, replicate};
 ghost use Rattle.model.specs.Stores.{IsStore};
 ghost use Rattle.heads.specs.Heads.{widthOf};
-ghost use Rattle.words.specs.Sheets.{IndexOf, IsSheet, Sized};
-ghost use Rattle.cover.specs.Covers.{FewValues, SizesTo, plainIn, rowsTo};
+ghost use Rattle.words.specs.Sheets.{IndexOf, IsSheet, Sized, rowsTo};
+ghost use Rattle.cover.specs.Covers.{FewValues, SizesTo, plainIn};
 
 // How many values each domain has: counted for all columns at once, which is as quick as for four.
 pub fn count_values(dom: &[u32; 16], sizes: &mut [u32; 16])
@@ -39,21 +39,6 @@ fn plain_choices(book: &[u8], s: usize, shorts: u32, sizes: &[u32; 16]) -> u32
         j += 1;
     }
     n
-}
-
-// How many rows of sheet s are set in the n words of its index that are not zero.
-fn set_rows(s: usize, n: usize, valid: &[u64; 64], index: &[u8; 64], nonzero: &[u8; 8]) -> u32
-    requires { ⌜ (s < 8) × Sized (now valid) (now index) (now nonzero) × IndexOf s (now valid) (now index) (now nonzero) × (n ≤ getD (now nonzero) s 0) ⌝ }
-    ensures { λ r. ⌜ r ≡ rowsTo (now (valid .entry)) (now (index .entry)) s n ⌝ }
-{
-    let mut rows: u32 = 0;
-    let mut p: usize = 0;
-    while p < n {
-        let w = word_number(index, s, p);
-        rows = rows + u64::count_ones(valid[8 * s + w]);
-        p += 1;
-    }
-    rows
 }
 
 // Whether fewer rows are set than there are choices. A word has 64 rows at most, so mostly none has to be counted.

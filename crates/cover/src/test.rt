@@ -5,12 +5,14 @@ use crate::few::*;
 use crate::table::*;
 use cells::bits::*;
 ghost use mathlib.Core.Path.{_≡_};
+ghost use mathlib.Core.Bool.{false};
 ghost use Prim.Native.Nat.{_<_, _^_};
 ghost use lib.ListN.{getD};
 ghost use Rattle.model.specs.Answers.{subsumed};
 ghost use Rattle.model.specs.Books.{sheetAt};
 ghost use Rattle.model.specs.Stores.{IsStore};
 ghost use Rattle.book.specs.Decoding.{bookOf};
+ghost use Rattle.heads.specs.Heads.{forbidsOf};
 ghost use Rattle.cells.specs.Cells.{SmallSets};
 ghost use Rattle.words.specs.Sheets.{AtSheet, SheetWords, ShortPlaces};
 ghost use Rattle.cover.specs.Covers.{IsTable, SettledSheet, SizesTo, TellsAllowed, TellsMatched};
@@ -75,7 +77,30 @@ fn all_matched(
     true
 }
 
-// Whether sheet s allows every choice from the domains, which have `sizes` values.
+// Whether sheet s, which allows its rows, allows every choice from the domains, which have `sizes` values.
+fn covered_by_rows(
+    book: &[u8],
+    begin: usize,
+    s: usize,
+    shorts: u32,
+    sizes: &[u32; 16],
+    dom: &[u32; 16],
+    valid: &[u64; 64],
+    index: &[u8; 64],
+    nonzero: &[u8; 8],
+) -> bool
+    requires { ⌜ AtSheet (now book) begin s × SheetWords (now book) s (now valid) (now index) (now nonzero) × ShortPlaces (now book) s shorts × SizesTo (now dom) 16 (now sizes) × IsStore 16 (now dom) × SettledSheet (now book) s (now dom) (now valid) × (forbidsOf (now book) s ≡ false) ⌝ }
+    ensures { λ r. ⌜ r ≡ subsumed (now (dom .entry)) (sheetAt (bookOf (now (book .entry))) s) ⌝ }
+{
+    if too_few(book, s, shorts, sizes, valid, index, nonzero) {
+        return false;
+    }
+    let mut x = [1u32; 4];
+    words::gather::wanted(book, s, dom, &mut x);
+    all_matched(book, begin, s, &x, valid, index, nonzero)
+}
+
+// The same of a sheet of either kind: a forbidden one does where no row of it is set.
 pub fn covered(
     book: &[u8],
     begin: usize,
@@ -90,10 +115,8 @@ pub fn covered(
     requires { ⌜ AtSheet (now book) begin s × SheetWords (now book) s (now valid) (now index) (now nonzero) × ShortPlaces (now book) s shorts × SizesTo (now dom) 16 (now sizes) × IsStore 16 (now dom) × SettledSheet (now book) s (now dom) (now valid) ⌝ }
     ensures { λ r. ⌜ r ≡ subsumed (now (dom .entry)) (sheetAt (bookOf (now (book .entry))) s) ⌝ }
 {
-    if too_few(book, s, shorts, sizes, valid, index, nonzero) {
-        return false;
+    if heads::head::forbids(book, s) {
+        return words::index::nonzero_words(nonzero, s) == 0;
     }
-    let mut x = [1u32; 4];
-    words::strike::wanted(book, s, dom, &mut x);
-    all_matched(book, begin, s, &x, valid, index, nonzero)
+    covered_by_rows(book, begin, s, shorts, sizes, dom, valid, index, nonzero)
 }

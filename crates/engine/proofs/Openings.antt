@@ -193,7 +193,7 @@ module _ (b : List ℕ) (acc : Accepted b) {D W X N : List ℕ} (hd : FullDomain
       (λ e.
       let n = ltb-true r (rowsOf b s) e in
       valid-i a D r n
-      (λ j k. in-full j (valueAt b s r j) k (cell-value a r j n k)))
+      (λ j k. in-full j (valueAt b s r j) k (⊎-elim (λ q. inl (q .1)) (λ q. inr q) (cell-value a r j n k))))
     where
       a : AtSheet b (firstByte b s) s
       a = at-sheet b acc s l

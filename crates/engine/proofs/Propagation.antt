@@ -27,8 +27,9 @@ use Rattle.book.specs.Decoding.{bookOf, sheetOf}
 use Rattle.heads.specs.Heads.{columnOf, columnsOf, sheetsOf, valuesOf, widthOf}
 use Rattle.book.specs.Verdicts.{Accepted}
 use Rattle.book.proofs.Decoding.{RightBook, accepted-right, tab-mem}
-use Rattle.words.specs.Looks.{Revised, Seen, SheetKnown}
-use Rattle.words.specs.Sheets.{AtSheet, IndexOf, Loses, OnlySheet, Sized, firstByte}
+use Rattle.looks.specs.Looks.{Revised, Seen, SheetKnown}
+use Rattle.looks.specs.Strikes.{Loses}
+use Rattle.words.specs.Sheets.{AtSheet, IndexOf, OnlySheet, Sized, firstByte}
 use Rattle.words.proofs.Places.{column-value, columns-size, formed, sheet-at, sheet-in, width-most, valid-e}
 use Rattle.engine.specs.Layouts.{LayoutOf}
 use Rattle.engine.specs.Propagation.{Fixpoint, Ready, closureIn, storeIn, Propagated}

@@ -12,7 +12,7 @@ use Rattle.model.specs.Books.{closure, columnCount}
 use Rattle.model.specs.States.{StateOf}
 use Rattle.heads.specs.Heads.{columnOf, columnsOf, sheetsOf, widthOf}
 use Rattle.book.specs.Decoding.{bookOf}
-use Rattle.words.specs.Looks.{SheetKnown}
+use Rattle.looks.specs.Looks.{SheetKnown}
 use Rattle.words.specs.Sheets.{Sized, IndexOf}
 
 -- the store in an array of sixteen domains: those of the book's columns

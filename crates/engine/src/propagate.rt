@@ -30,7 +30,7 @@ pub fn fixpoint(
         let s = first_waiting(left);
         let seen = changed[s];
         changed[s] = 0;
-        let look = words::strike::revise(
+        let look = looks::strike::revise(
             book,
             begins[s],
             s,

@@ -9,9 +9,10 @@ use Rattle.book.specs.Acceptance.{harbour}
 use Rattle.book.specs.Decoding.{bookOf}
 use Rattle.book.specs.Verdicts.{checkResult}
 use Rattle.book.proofs.Acceptance.{computing, harbourFacts}
+use Rattle.promises.proofs.Comparisons.{runsCompare}
 use Rattle.promises.proofs.Twins.{writtenOutRuns}
 use Rattle.runs.specs.Results.{runRefusal, runResult, runSpace, wrongList}
-use Rattle.examples.specs.Acceptance.{AnyBoardFacts, CheckFacts, FaultFacts, RowCheckFacts, RunFacts, anyBoard}
+use Rattle.examples.specs.Acceptance.{AnyBoardFacts, CheckFacts, FaultFacts, ForbiddenPairFacts, RiseCheckFacts, RowCheckFacts, RunFacts, anyBoard, forbiddenPair}
 
 pub checkFacts : CheckFacts
 unfolding computing
@@ -33,6 +34,20 @@ rowCheckFacts = record {
   large-value = refl;
   filler-first = refl;
 }
+
+pub riseCheckFacts : RiseCheckFacts
+unfolding computing
+riseCheckFacts = record {
+  rises = refl;
+  equal-rows = refl;
+  filler-later = refl;
+  any-later = refl;
+  plain-rows = refl;
+}
+
+pub forbiddenPairFacts : ForbiddenPairFacts
+unfolding computing
+forbiddenPairFacts = record { accepted = refl; stands-for = refl; compared = runsCompare forbiddenPair }
 
 pub faultFacts : FaultFacts
 unfolding computing

@@ -1,17 +1,18 @@
--- What `fitting_check` and `fitting_run` give on worked examples: harbour book H, also with a short row, each refusal with a place, and whole runs
+-- What `fitting_check` and `fitting_run` give on worked examples: harbour book H, also with a short row or a forbidden pair, each refusal with a place, and whole runs
 -- over a book of one column with one value. Proved in proofs/Acceptance.antt.
 use mathlib.Core.Path.{_≡_}
 use mathlib.Core.Bool.{false, true}
 use mathlib.Core.List.{List, [], _++_, _∷_}
 use Prim.Native.Nat.{ℕ}
 use lib.ListN.{replicate, set, take}
-use Rattle.model.specs.Acceptance.{HA}
+use Rattle.model.specs.Acceptance.{HA, HF}
 use Rattle.heads.specs.Acceptance.{head, padded}
-use Rattle.book.specs.Acceptance.{both, bothHead, bothRows, harbour, longRows, rows0, sealed, tiny, tinyHead}
+use Rattle.book.specs.Acceptance.{both, bothHead, bothRows, clash, harbour, longRows, rows0, rows1, sealed, tiny, tinyHead}
 use Rattle.book.specs.Decoding.{bookOf}
 use Rattle.book.specs.Rows.{fault, firstFault, notZero, tooLarge}
 use Rattle.book.specs.Verdicts.{checkResult, refused}
 use Rattle.runs.specs.Results.{runRefusal, runResult, runSpace, wrongList}
+use Rattle.promises.specs.Promises.{ComparedRuns}
 use Rattle.promises.specs.Twins.{TwinRuns}
 
 pub record CheckFacts : Type 0 where
@@ -34,6 +35,17 @@ pub record RowCheckFacts : Type 0 where
   -- "6 for filler, ranked with 5 by file order"
   pub filler-first : checkResult (both (set (set bothRows 3 1) 4 2)) ≡ refused 6 128
 
+-- the same rows in a forbidden sheet: "Its rows rise strictly as byte strings; 255 is refused with 5"
+pub record RiseCheckFacts : Type 0 where
+  pub rises : checkResult (clash bothRows) ≡ 17
+  -- "7 for rows that don't rise, place the offset, as in W1, of the first row not above the one before it": row 1 is equal to row 0
+  pub equal-rows : checkResult (clash (set bothRows 0 1)) ≡ refused 7 129
+  -- "after 5 and 6": also where these stand later in the file
+  pub filler-later : checkResult (clash (set (set bothRows 0 1) 8 1)) ≡ refused 6 130
+  pub any-later : checkResult (clash (set (set bothRows 0 1) 4 255)) ≡ refused 5 129
+  -- rows that are allowed may repeat
+  pub plain-rows : checkResult (both (set bothRows 0 1)) ≡ 17
+
 -- "for the first fault in file order": a value and a filler of one row; the last byte of the unused rows; in a second block, a value before an unused
 -- row, and that row alone
 pub record FaultFacts : Type 0 where
@@ -52,6 +64,16 @@ pub record AnyBoardFacts : Type 0 where
   pub stands-for : bookOf anyBoard ≡ HA
   -- "What a buyer sees of an accepted book must equal a book with such rows written out": that is H
   pub runs : TwinRuns anyBoard harbour
+
+-- ---- "Sheets of forbidden pairs": H as bytes, with a third sheet, of width and board, that forbids the pair 00 (HF: model, Acceptance)
+abbrev pub forbiddenPair : List ℕ
+forbiddenPair = sealed 0 (set (set (set (set (padded head) 5 3) 40 130) 42 2) 46 1 ∷ rows0 ∷ rows1 ∷ [] ∷ [])
+
+pub record ForbiddenPairFacts : Type 0 where
+  pub accepted : checkResult forbiddenPair ≡ 51
+  pub stands-for : bookOf forbiddenPair ≡ HF
+  -- "A buyer's comparison between lists covers mixed books.": any two lists over it, as over every book
+  pub compared : (x y : List ℕ) → ComparedRuns forbiddenPair x y
 
 -- a mark, a narrow of column 0 to no value, an order of no kind
 abbrev pub threeOrders : List ℕ

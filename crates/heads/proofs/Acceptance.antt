@@ -2,12 +2,12 @@
 use mathlib.Core.Path.{refl}
 use Rattle.model.specs.Tests.{anyBelow, sum, lowest, tab}
 use Rattle.heads.specs.Blocks.{wrongLength, wordSum, checkOf, wrongCheck, firstWrongCheck}
-use Rattle.heads.specs.Heads.{wrongLetters, wrongColumns, wrongSheets, wrongValues, wrongWidth, notRising, wrongColumn, wrongRows, wrongInEntry, wrongEntry, wrongField, firstWrongField}
+use Rattle.heads.specs.Heads.{forbidsOf, widthOf, wrongLetters, wrongColumns, wrongSheets, wrongValues, wrongWidth, notRising, wrongColumn, wrongRows, wrongInEntry, wrongEntry, wrongField, firstWrongField}
 use Rattle.heads.specs.Acceptance.{BlockFacts, FieldFacts}
 
 -- opens every definition that an example computes with; where one is missing, the example fails uncomputed, and not with `true` against `false`
 unfoldable pub computing : Unit {0}
-unfolding anyBelow sum lowest tab wrongLength wordSum checkOf wrongCheck firstWrongCheck wrongLetters wrongColumns wrongSheets wrongValues wrongWidth notRising wrongColumn wrongRows wrongInEntry wrongEntry wrongField firstWrongField
+unfolding anyBelow sum lowest tab wrongLength wordSum checkOf wrongCheck firstWrongCheck forbidsOf widthOf wrongLetters wrongColumns wrongSheets wrongValues wrongWidth notRising wrongColumn wrongRows wrongInEntry wrongEntry wrongField firstWrongField
 computing = tt
 
 pub blockFacts : BlockFacts
@@ -45,6 +45,14 @@ fieldFacts = record {
   wide = refl;
   equal-column = refl;
   high-column = refl;
+  mark-alone = refl;
+  narrowest-forbidden = refl;
+  widest-forbidden = refl;
+  wide-forbidden = refl;
+  highest-byte = refl;
+  plain-sheet = refl;
+  forbidden-sheet = refl;
+  forbidden-width = refl;
   past-width = refl;
   byte5 = refl;
   past-width1 = refl;

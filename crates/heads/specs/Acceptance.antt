@@ -6,7 +6,7 @@ use mathlib.Core.List.{List, [], _∷_, _++_}
 use Prim.Native.Nat.{ℕ, _-_}
 use lib.ListN.{length, replicate, set}
 use Rattle.heads.specs.Blocks.{wrongLength, checkOf}
-use Rattle.heads.specs.Heads.{wrongField, firstWrongField}
+use Rattle.heads.specs.Heads.{forbidsOf, widthOf, wrongField, firstWrongField}
 
 -- bytes 0 to 507 of a block: what it begins with, then zeros
 abbrev pub padded : List ℕ → List ℕ
@@ -49,6 +49,15 @@ pub record FieldFacts : Type 0 where
   pub no-width : wrongField (set head 24 0) 24 ≡ true
   pub widest : wrongField (set head 32 4) 32 ≡ false
   pub wide : wrongField (set head 32 5) 32 ≡ true
+  -- "Width byte 129 to 132 marks a forbidden sheet of width 1 to 4"
+  pub mark-alone : wrongField (set head 32 128) 32 ≡ true
+  pub narrowest-forbidden : wrongField (set head 32 129) 32 ≡ false
+  pub widest-forbidden : wrongField (set head 32 132) 32 ≡ false
+  pub wide-forbidden : wrongField (set head 32 133) 32 ≡ true
+  pub highest-byte : wrongField (set head 32 255) 32 ≡ true
+  pub plain-sheet : forbidsOf (set head 32 4) 1 ≡ false
+  pub forbidden-sheet : forbidsOf (set head 32 129) 1 ≡ true
+  pub forbidden-width : widthOf (set head 32 132) 1 ≡ 4
   pub equal-column : wrongField (set head 34 1) 34 ≡ true
   pub high-column : wrongField (set head 26 3) 26 ≡ true
   pub past-width : wrongField (set head 28 1) 28 ≡ true

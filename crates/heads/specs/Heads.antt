@@ -4,7 +4,7 @@
 --     FGB1 C S 0 0 V × 16   entry 0 entry 1 … 7    0 … 0          check
 --
 --     entry s:  24 + 8 s + 0  1 2 3 4  5  6 7
---                          k  columns  0  rows
+--                          k  columns  0  rows            k + 128 of a forbidden sheet
 use mathlib.Core.Bool.{Bool, false, cond, not, _&&_, _||_}
 use mathlib.Core.List.{List}
 use Prim.Native.Nat.{ℕ, _+_, _*_, _-_, _/_, _%_}
@@ -26,9 +26,14 @@ sheetsOf b = byteAt b 5
 abbrev pub valuesOf : List ℕ → ℕ → ℕ
 valuesOf b c = byteAt b (8 + c)
 
--- "from byte 24, eight sheet entries of 8 bytes. Byte 0: width k"
-abbrev pub widthOf : List ℕ → ℕ → ℕ
-widthOf b s = byteAt b (24 + 8 * s)
+-- "from byte 24, eight sheet entries of 8 bytes. Byte 0: width k". "Width byte 129 to 132 marks a forbidden sheet of width 1 to 4": what is above 128 is
+-- the width, and 128 the mark
+unfoldable pub widthOf : List ℕ → ℕ → ℕ
+widthOf b s = byteAt b (24 + 8 * s) % 128
+
+-- the mark is there
+unfoldable pub forbidsOf : List ℕ → ℕ → Bool
+forbidsOf b s = leb 128 (byteAt b (24 + 8 * s))
 
 -- "Bytes 1 to 4: k column numbers"
 abbrev pub columnOf : List ℕ → ℕ → ℕ → ℕ
@@ -55,7 +60,7 @@ wrongSheets b = outOfRange 0 8 (sheetsOf b)
 unfoldable pub wrongValues : List ℕ → ℕ → Bool
 wrongValues b c = cond (ltb c (columnsOf b)) (outOfRange 1 32 (valuesOf b c)) (setAt b (8 + c))
 
--- "width k, 1 to 4"
+-- "width k, 1 to 4", with the mark or without
 unfoldable pub wrongWidth : List ℕ → ℕ → Bool
 wrongWidth b s = outOfRange 1 4 (widthOf b s)
 

@@ -7,10 +7,13 @@ ghost use mathlib.Core.Path.{_≡_};
 ghost use Prim.Native.Nat.{_+_, _*_, _<_, _≤_};
 ghost use lib.ListN.{length};
 ghost use Rattle.model.specs.Tests.{FirstIn};
-ghost use Rattle.heads.specs.Heads.{columnsOf, sheetsOf, valuesOf, widthOf, columnOf, rowsOf, wrongLetters, wrongColumns, wrongSheets, wrongValues, wrongWidth, notRising, wrongColumn, wrongRows, wrongField};
+ghost use Rattle.heads.specs.Heads.{columnsOf, sheetsOf, valuesOf, widthOf, forbidsOf, columnOf, rowsOf, wrongLetters, wrongColumns, wrongSheets, wrongValues, wrongWidth, notRising, wrongColumn, wrongRows, wrongField};
 
 // The letters FGB1, 70, 71, 66 and 49, as one number.
 const LETTERS: u32 = 826427206;
+
+// What the width byte of a forbidden sheet has above its width.
+const MARK: usize = 128;
 
 // ---- the fields
 
@@ -43,7 +46,15 @@ pub fn width(h: &[u8], s: usize) -> usize
     requires { ⌜ (512 ≤ length (now h)) × (s < 8) ⌝ }
     ensures { λ r. ⌜ (r ≡ widthOf (now (h .entry)) s) × (r < 256) ⌝ }
 {
-    wide(h[24 + 8 * s])
+    wide(h[24 + 8 * s]) % MARK
+}
+
+// Whether sheet s forbids its rows.
+pub fn forbids(h: &[u8], s: usize) -> bool
+    requires { ⌜ (512 ≤ length (now h)) × (s < 8) ⌝ }
+    ensures { λ r. ⌜ r ≡ forbidsOf (now (h .entry)) s ⌝ }
+{
+    MARK <= wide(h[24 + 8 * s])
 }
 
 // Number j of the columns of sheet s.

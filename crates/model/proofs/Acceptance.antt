@@ -5,17 +5,18 @@ use Rattle.model.specs.Tests.{allBelow, anyBelow, allIn, anyIn, sum, cou
 use Rattle.model.specs.Masks.{bit, maskOf}
 use Rattle.model.specs.Stores.{has, storeOf, emptyStore, allFilled, values}
 use Rattle.model.specs.Closure.{strike, rounds, closureOf}
-use Rattle.model.specs.Choices.{anyChoice}
-use Rattle.model.specs.Books.{inDomain, rowMatches, allows, supports, supportedIn, supported, closure}
+use Rattle.model.specs.Choices.{anyChoice, space, spaceBut}
+use Rattle.model.specs.Books.{inDomain, rowMatches, isRow, allows, supports, supportedIn, supported, closure}
 use Rattle.model.specs.Search.{openColumn, valueOf, tryEach, searchFrom, searched}
 use Rattle.model.specs.Orders.{wrongPlace, someWrong, depth, before, firstCause, outside, refusal, push, trailFrom, permits, allowed, domains}
 use Rattle.model.specs.Answers.{assigned, statusOf, subsumed, doneOf, outcome, showing, answer, answersFrom, lastFrom, acceptedFrom, domainBytes, answerBytes}
+use Rattle.model.specs.States.{valid, validRow, validRowsAt, validWord}
 use Rattle.model.specs.WrittenOut.{writtenCell, writtenRow, writtenSheet, writtenOut}
-use Rattle.model.specs.Acceptance.{TenFacts, SevenLines, SearchFacts, TriesFacts, RefusalFacts, ByteFacts, WrittenOutFacts, DoneFacts, MayDiffer}
+use Rattle.model.specs.Acceptance.{TenFacts, SevenLines, SearchFacts, TriesFacts, RefusalFacts, ByteFacts, WrittenOutFacts, DoneFacts, ForbiddenFacts, MayDiffer}
 
 -- opens every definition that an example computes with
 unfoldable pub computing : Unit {0}
-unfolding lowest allBelow anyBelow allIn anyIn sum count eqList tab bit maskOf has storeOf emptyStore allFilled values strike rounds closureOf anyChoice inDomain rowMatches allows supports supportedIn supported closure wrongPlace someWrong depth before firstCause outside refusal push trailFrom permits allowed domains assigned statusOf subsumed doneOf outcome showing answer answersFrom lastFrom acceptedFrom answerBytes openColumn valueOf tryEach searchFrom searched
+unfolding lowest allBelow anyBelow allIn anyIn sum count eqList tab bit maskOf has storeOf emptyStore allFilled values strike rounds closureOf anyChoice inDomain rowMatches isRow allows supports supportedIn supported closure wrongPlace someWrong depth before firstCause outside refusal push trailFrom permits allowed domains assigned statusOf subsumed doneOf outcome showing answer answersFrom lastFrom acceptedFrom answerBytes openColumn valueOf tryEach searchFrom searched
 computing = tt
 
 pub tenFacts : TenFacts
@@ -113,6 +114,28 @@ doneFacts =
       any-and-plain = refl;
       any-and-one = refl;
       failed = refl;
+    }
+
+pub forbiddenFacts : ForbiddenFacts
+unfolding computing space spaceBut valid validRow validRowsAt validWord
+forbiddenFacts =
+    record {
+      no-rows = refl;
+      all-rows = refl;
+      one-row = refl;
+      no-row-cut = refl;
+      own-strike = refl;
+      own-rows = refl;
+      counted = refl;
+      choices = refl;
+      fewer = refl;
+      opening = refl;
+      first-set = refl;
+      board-0 = refl;
+      board-1 = refl;
+      same-lists = record { at = λ c v. refl };
+      same-ends = refl;
+      narrower-end = refl;
     }
 
 pub mayDiffer : MayDiffer

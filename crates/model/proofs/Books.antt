@@ -1,5 +1,5 @@
 -- Laws of books: the support test says what document 01 says, so a value stays exactly when a consistent store within holds it.
--- But for `allows-e`, `allows-i` and what cites them, none of them looks into `allows`. Assumes nothing.
+-- But for `allows-plain`, `allows-forbidden` and what cites them, none of them looks into `allows`. Assumes nothing.
 use mathlib.Core.Path.{_≡_, refl, sym, ap, _∙_, subst}
 use mathlib.Core.Bool.{true, false, cond, not, _&&_, _||_, false≢true, true≢false}
 use mathlib.Core.Logic.{_⊎_, inl, inr, _↔_}
@@ -16,7 +16,7 @@ use Rattle.model.specs.Masks.{bit}
 use Rattle.model.specs.Stores.{has, Within, IsStore, storeOf, emptyStore}
 use Rattle.model.specs.Closure.{Monotone, Consistent, closureOf}
 use Rattle.model.specs.Choices.{pick, anyChoice}
-use Rattle.model.specs.Books.{Sheet, Book, columnCount, inDomain, isAny, matches, rowMatches, allows, WellFormedSheet, WellFormed, Support, ConsistentStore, Stays, Fails, supports, supportedIn, supported, closure}
+use Rattle.model.specs.Books.{Sheet, Book, columnCount, inDomain, isAny, matches, rowMatches, isRow, allows, WellFormedSheet, WellFormed, Support, ConsistentStore, Stays, Fails, supports, supportedIn, supported, closure}
 use Rattle.model.proofs.Tests.{and-l, and-r, and-i, or-e, or-l, or-r, either, allIn-mono, allIn-e, allIn-i, anyIn-e, anyIn-i, below, positive}
 use Rattle.model.proofs.Masks.{bit-of-zero, bit-pow, bit-pow-only, lt-own-pow, some-bit}
 use Rattle.model.proofs.Stores.{has-i, has-e, is-store, in-store, within-trans}
@@ -286,26 +286,41 @@ in-domain-e x d e = go (either (isAny x))
         let r = some-bit d d (lt-own-pow d) (ltb-true 0 d (rw a at e)) in (r .0, r .2, rw a (lt-ltb 0 (2 ^ r .0) (pow-pos (r .0))))
     go (inr a) = (x, rw a at e, rw a (bit-pow x))
 
--- what is allowed matches a row, and what matches a row is allowed
-pub allows-e : (s : Sheet) (t : List ℕ) → allows s t ≡ true → (r : List ℕ) × List·Memᴰ r (s .rows) × (rowMatches r t ≡ true)
-unfolding allows
-allows-e s t e = anyIn-e (s .rows) (λ r. rowMatches r t) e
+-- ---- what is allowed, by the kind of the sheet
+pub is-row-e : (s : Sheet) (t : List ℕ) → isRow s t ≡ true → (r : List ℕ) × List·Memᴰ r (s .rows) × (rowMatches r t ≡ true)
+unfolding isRow
+is-row-e s t e = anyIn-e (s .rows) (λ r. rowMatches r t) e
 
-pub allows-i : (s : Sheet) (r t : List ℕ) → List·Memᴰ r (s .rows) → rowMatches r t ≡ true → allows s t ≡ true
-unfolding allows
-allows-i s r t m e = anyIn-i (s .rows) (λ r. rowMatches r t) r m e
+pub is-row-i : (s : Sheet) (r t : List ℕ) → List·Memᴰ r (s .rows) → rowMatches r t ≡ true → isRow s t ≡ true
+unfolding isRow
+is-row-i s r t m e = anyIn-i (s .rows) (λ r. rowMatches r t) r m e
 
--- a book with a sheet without rows fails, whatever is allowed: K8 for every such book
-pub no-rows-fail : (b : Book) → WellFormed b → (s : Sheet) → List·Memᴰ s (b .sheets) → s .rows ≡ []
+pub allows-plain : (s : Sheet) → s .forbids ≡ false → (t : List ℕ) → allows s t ≡ isRow s t
+unfolding allows
+allows-plain s f t = rw f
+
+pub allows-forbidden : (s : Sheet) → s .forbids ≡ true → (t : List ℕ) → allows s t ≡ not (isRow s t)
+unfolding allows
+allows-forbidden s f t = rw f
+
+-- where rows are allowed: what is allowed matches a row, and what matches a row is allowed
+pub allows-e : (s : Sheet) → s .forbids ≡ false → (t : List ℕ) → allows s t ≡ true → (r : List ℕ) × List·Memᴰ r (s .rows) × (rowMatches r t ≡ true)
+allows-e s f t e = is-row-e s t (sym (allows-plain s f t) ∙ e)
+
+pub allows-i : (s : Sheet) → s .forbids ≡ false → (r t : List ℕ) → List·Memᴰ r (s .rows) → rowMatches r t ≡ true → allows s t ≡ true
+allows-i s f r t m e = allows-plain s f t ∙ is-row-i s r t m e
+
+-- a book with a sheet that allows no rows fails, whatever the others allow: K8 for every such book
+pub no-rows-fail : (b : Book) → WellFormed b → (s : Sheet) → List·Memᴰ s (b .sheets) → s .forbids ≡ false → s .rows ≡ []
     → (A : List ℕ) → IsStore (columnCount b) A → closure b A ≡ emptyStore (columnCount b)
-no-rows-fail b p s m e A a = fails-iff b p A a .1 (record { none = gone })
+no-rows-fail b p s m plain e A a = fails-iff b p A a .1 (record { none = gone })
   where
     gone : (B : List ℕ) → ConsistentStore b B → Within B A → ⊥
     gone B h w =
         let q = p .sheet s m in
         let r = h .filled (getD (s .columns) 0 0) (q .inside 0 (q .some-column)) in
         let k = h .support s m 0 (q .some-column) (r .0) (r .1) in
-        let r = allows-e s (k .tuple) (k .sheet-allows) in List·Memᴰ·not-nil (subst (λ (l : List (List ℕ)). List·Memᴰ (r .0) l) e (r .1))
+        let r = allows-e s plain (k .tuple) (k .sheet-allows) in List·Memᴰ·not-nil (subst (λ (l : List (List ℕ)). List·Memᴰ (r .0) l) e (r .1))
 
 -- in a book without sheets all values stay, where no column is empty: K9 for every such book
 pub no-sheets-stay : (b : Book) → b .sheets ≡ [] → (A : List ℕ) → IsStore (columnCount b) A

@@ -15,6 +15,8 @@ pub mod Trails
 pub mod Refusals
 pub mod Answers
 pub mod Rows
+pub mod Settling
+pub mod Counting
 pub mod Subsumptions
 pub mod OneSheet
 pub mod Demands

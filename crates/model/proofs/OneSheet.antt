@@ -1,7 +1,7 @@
 -- The closure of a book with one sheet: what the rows that are valid in A support is a consistent store, since those rows are valid in it
 -- too. Assumes nothing.
 use mathlib.Core.Path.{_∙_, _≡_, ap, refl, subst⁻¹, sym}
-use mathlib.Core.Bool.{Bool, _&&_, true}
+use mathlib.Core.Bool.{Bool, _&&_, false, true}
 use mathlib.Core.Logic.{_⊎_, inl, inr}
 use mathlib.Core.List.{List, List·Memᴰ, List·Memᴰ·head, List·Memᴰ·not-nil, List·Memᴰ·tail, [], _∷_}
 use Prim.Native.Nat.{_<_, ℕ}
@@ -22,7 +22,7 @@ alone : {A : Type 0} (x y : A) → List·Memᴰ x (y ∷ []) → x ≡ y
 alone x y (List·Memᴰ·head e) = e
 alone x y (List·Memᴰ·tail m) = absurd (List·Memᴰ·not-nil m)
 
-module _ (b : Book) (s : Sheet) (A : List ℕ) (p : WellFormed b) (only : b .sheets ≡ s ∷ []) (a : IsStore (columnCount b) A)
+module _ (b : Book) (s : Sheet) (A : List ℕ) (p : WellFormed b) (only : b .sheets ≡ s ∷ []) (plain : s .forbids ≡ false) (a : IsStore (columnCount b) A)
     (f : (c : ℕ) → c < columnCount b → (v : ℕ) × (has A c v ≡ true)) where
   member : List·Memᴰ s (b .sheets)
   member = rw only (List·Memᴰ·head refl)
@@ -108,7 +108,7 @@ module _ (b : Book) (s : Sheet) (A : List ℕ) (p : WellFormed b) (only : b .she
   unfolding validRow has
   row-supports r e =
       let h = in-domain-e _ _ (valid-e A (s .columns) (getD (s .rows) r []) (and-r (ltb r (length (s .rows))) _ e) .1 0 (well .some-column)) in
-      (h .0, supportsByRows A s 0 (h .0) (well .some-column) .1 (record { row = r; is-valid = e; value = h .2; there = h .1 }))
+      (h .0, supportsByRows A s plain 0 (h .0) (well .some-column) .1 (record { row = r; is-valid = e; value = h .2; there = h .1 }))
 
   one-sheet : OneSheet b s A
   unfolding validRow
@@ -121,16 +121,16 @@ module _ (b : Book) (s : Sheet) (A : List ℕ) (p : WellFormed b) (only : b .she
         own = λ i l v. (
           λ e.
               let h = stays-iff b p A a (getD (s .columns) i 0) v .0 e in
-              supportsByRows A s i v l .0 (stays-own _ _ h i l v (h .holds)),
+              supportsByRows A s plain i v l .0 (stays-own _ _ h i l v (h .holds)),
           λ r.
-              let k = supportsByRows A s i v l .1 r in
+              let k = supportsByRows A s plain i v l .1 r in
               left-stays i v k (getD (s .columns) i 0) v (rw (k .value) at (row-left i v k i l)),
         );
         other = λ c n v. (
           λ e.
               let h = stays-iff b p A a c v .0 e in
               let w = h .consistent .filled (getD (s .columns) 0 0) (well .inside 0 (well .some-column)) in
-              let k = supportsByRows A s 0 (w .0) (well .some-column) .0 (stays-own c v h 0 (well .some-column) (w .0) (w .1)) in
+              let k = supportsByRows A s plain 0 (w .0) (well .some-column) .0 (stays-own c v h 0 (well .some-column) (w .0) (w .1)) in
               (h .within .at c v (h .holds), (k .row, k .is-valid)),
           λ r.
               let k = row-supports (r .1 .0) (r .1 .1) in left-stays 0 (k .0) (k .1) c v (left-i c v (r .0) (λ i l q. absurd (n i l q))),

@@ -1,5 +1,4 @@
--- Laws of valid rows: a value is supported in a sheet exactly when a valid row carries it. What an engine strikes by its rows is not
--- supported, and where every value has a valid row the store is consistent. Assumes nothing.
+-- Laws of valid rows: in a sheet that allows its rows a value is supported exactly when a valid row carries it. Assumes nothing.
 use mathlib.Core.Path.{_∙_, _≡_, ap, ap₂, refl, sym}
 use mathlib.Core.Bool.{Bool, _&&_, false, false≢true, true}
 use mathlib.Core.Logic.{_⊎_, inl, inr}
@@ -10,13 +9,13 @@ use native.Mathlib.Omega.{arith}
 use lib.Dec.{ltb}
 use lib.ListN.{drop, getD, length}
 use borrow.Author.Tests.{lt-ltb, ltb-true}
-use Rattle.model.specs.Books.{Book, Sheet, Support, WellFormed, WellFormedSheet, columnCount, inDomain, matches, rowMatches, supported, supportedIn}
+use Rattle.model.specs.Books.{Sheet, Support, inDomain, isAny, matches, rowMatches}
 use Rattle.model.specs.Choices.{Takes, pick}
 use Rattle.model.specs.Closure.{Consistent}
 use Rattle.model.specs.Masks.{bit}
 use Rattle.model.specs.States.{SupportsByRows, ValidSupport, valid, validRow, validWord}
 use Rattle.model.specs.Stores.{IsStore, has}
-use Rattle.model.proofs.Books.{allows-e, allows-i, consistent-from, in-domain-e, in-domain-i, support-e, support-i}
+use Rattle.model.proofs.Books.{allows-e, allows-i, in-domain-e, in-domain-i, matches-plain, matches-self}
 use Rattle.model.proofs.Choices.{length-pick, pick-e}
 use Rattle.model.proofs.Masks.{bit-maskOf, mask-ext, maskOf-lt, maskOf-same}
 use Rattle.model.proofs.Tests.{allIn-e, and-i, and-l, and-r, either}
@@ -141,11 +140,11 @@ in-list d (y ∷ l) (suc i) h = List·Memᴰ·tail (in-list d l i (le-of-suc-le-
 -- ---- a value has support exactly when a valid row carries it
 pub supportsByRows : SupportsByRows
 unfolding validRow
-supportsByRows D s i v l = (to, from)
+supportsByRows D s plain i v l = (to, from)
   where
     to : Support D s i v → ValidSupport D s i v
     to k =
-        let m = allows-e s (k .tuple) (k .sheet-allows) in
+        let m = allows-e s plain (k .tuple) (k .sheet-allows) in
         let r = at-place [] (m .0) (s .rows) (m .1) in
         let p : i < length (pick D (s .columns)) = rw (length-pick D (s .columns)) l in
         record {
@@ -161,49 +160,27 @@ supportsByRows D s i v l = (to, from)
         let h = chosen-with D (s .columns) (getD (s .rows) (k .row) []) i v (and-r (ltb (k .row) (length (s .rows))) _ (k .is-valid)) l (k .value) (k .there) in
         record {
           tuple = h .0 .tuple;
-          sheet-allows = allows-i s _ _ (in-list [] (s .rows) (k .row) n) (h .0 .fits);
+          sheet-allows = allows-i s plain _ _ (in-list [] (s .rows) (k .row) n) (h .0 .fits);
           valid = h .0 .takes;
           value = h .1;
         }
 
--- a value without a valid row has no support, and one with a valid row has
-pub unsupportedIn : (D counts : List ℕ) (s : Sheet) → WellFormedSheet counts s → (i : ℕ) → i < length (s .columns) → (v : ℕ)
-    → (ValidSupport D s i v → ⊥) → supportedIn D (getD (s .columns) i 0) v s ≡ false
-unsupportedIn D counts s p i l v n = go (either (supportedIn D (getD (s .columns) i 0) v s))
-  where
-    go : (supportedIn D (getD (s .columns) i 0) v s ≡ true) ⊎ (supportedIn D (getD (s .columns) i 0) v s ≡ false)
-        → supportedIn D (getD (s .columns) i 0) v s ≡ false
-    go (inl e) = absurd (n (supportsByRows D s i v l .0 (support-e D counts s p i l v e)))
-    go (inr e) = e
+-- ---- a row without 255
+-- a row matches itself, and a plain row nothing else
+pub row-self : (t : List ℕ) → rowMatches t t ≡ true
+unfolding rowMatches
+row-self [] = refl
+row-self (v ∷ t) = and-i (matches-self v) (row-self t)
 
-pub supported-valid : (D : List ℕ) → ((k : ℕ) → getD D k 0 < 2 ^ 32) → (s : Sheet) (c v : ℕ)
-    → ((i : ℕ) → i < length (s .columns) → getD (s .columns) i 0 ≡ c → ValidSupport D s i v) → supportedIn D c v s ≡ true
-supported-valid D d s c v h = support-i D d s c v (λ i l q. supportsByRows D s i v l .1 (h i l q))
-
-module _ (b : Book) (p : WellFormed b) (D : List ℕ) where
-  -- a value without a valid row in some sheet may be struck
-  pub unsupported : (s : Sheet) → List·Memᴰ s (b .sheets) → (i : ℕ) → i < length (s .columns) → (v : ℕ)
-      → (ValidSupport D s i v → ⊥) → supported b D (getD (s .columns) i 0) v ≡ false
-  unfolding supported
-  unsupported s m i l v n = go (either (supported b D (getD (s .columns) i 0) v))
-    where
-      go : (supported b D (getD (s .columns) i 0) v ≡ true) ⊎ (supported b D (getD (s .columns) i 0) v ≡ false)
-          → supported b D (getD (s .columns) i 0) v ≡ false
-      go (inl e) =
-          absurd
-          (n
-          (supportsByRows D s i v l .0
-          (support-e D (b .counts) s (p .sheet s m) i l v (allIn-e (b .sheets) (supportedIn D (getD (s .columns) i 0) v) e s m))))
-      go (inr e) = e
-
-  -- no column empty, and a valid row for every value in every sheet: consistent
-  pub rows-consistent : IsStore (columnCount b) D
-      → ((c : ℕ) → c < columnCount b → (v : ℕ) × (has D c v ≡ true))
-      → ((s : Sheet) → List·Memᴰ s (b .sheets) → (i : ℕ) → i < length (s .columns)
-      → (v : ℕ) → has D (getD (s .columns) i 0) v ≡ true → ValidSupport D s i v)
-      → Consistent (columnCount b) (supported b) D
-  rows-consistent d f h =
-      consistent-from b D d (record { filled = f; support = λ s m i l v e. supportsByRows D s i v l .1 (h s m i l v e) })
+pub row-plain : (r t : List ℕ) → ((i : ℕ) → i < length r → isAny (getD r i 0) ≡ false) → rowMatches r t ≡ true → r ≡ t
+unfolding rowMatches
+row-plain [] [] h e = refl
+row-plain [] (v ∷ t) h e = absurd (false≢true e)
+row-plain (x ∷ r) [] h e = absurd (false≢true e)
+row-plain (x ∷ r) (v ∷ t) h e =
+    let p : x ≡ v = matches-plain x v (h 0 (zero-lt-suc (length r))) (and-l (matches x v) _ e) in
+    let q : r ≡ t = row-plain r t (λ i l. h (suc i) (omega arith)) (and-r (matches x v) _ e) in
+    cc
 
 -- ---- the words
 -- bit r mod 64 of word r div 64 says whether row r is valid

@@ -1,16 +1,18 @@
 -- The statements speak of something: the paper's books are well-formed, its opening state holds, a book with one sheet has stores with no
 -- empty column, and a book with 255 has a written-out twin. Assumes nothing.
 use mathlib.Core.Path.{_∙_, _≡_, ap, refl, subst, sym}
-use mathlib.Core.Bool.{Bool, _&&_, _||_, true}
+use mathlib.Core.Bool.{Bool, _&&_, _||_, false, false≢true, not, true}
 use mathlib.Core.Logic.{_⊎_, inl, inr, ⊎-elim}
 use mathlib.Core.List.{List, [], _∷_}
-use Prim.Native.Nat.{_<_, suc, zero, ℕ}
+use Prim.Native.Nat.{_-_, _<_, suc, zero, ℕ}
+use native.Mathlib.Nat.{le-of-suc-le-suc, not-suc-le-zero}
 use native.Mathlib.Omega.{arith}
 use lib.Dec.{eqb, leb, ltb}
 use lib.ListN.{getD, length}
-use borrow.Author.Tests.{eqb-true, leb-true, ltb-true}
+use borrow.Author.Tests.{eqb-true, leb-true, ltb-true, not-true}
 use Rattle.model.specs.Acceptance.{AnyBoard, BooksWellFormed, H, H1, H2, H7, H8, H9, HA, HD, RowFacts, openingIndex, openingRows, sheetOf, unequal}
 use Rattle.model.specs.Books.{Book, Sheet, WellFormed, WellFormedSheet, columnCount, isAny, sheetAt}
+use Rattle.model.specs.Choices.{Lower}
 use Rattle.model.specs.Orders.{Entry, allowed, domains, narrowed}
 use Rattle.model.specs.States.{Indexed, OneSheet, ofSheet, valid, validRow, validWord}
 use Rattle.model.specs.Stores.{allFilled}
@@ -25,7 +27,26 @@ use Rattle.model.proofs.WrittenOut.{writtenOutAnswers}
 
 -- ---- well-formed books, by a test
 cellTest : List ℕ → Sheet → ℕ → ℕ → Bool
-cellTest counts s r i = isAny (getD (getD (s .rows) r []) i 0) || ltb (getD (getD (s .rows) r []) i 0) (getD counts (getD (s .columns) i 0) 0)
+cellTest counts s r i = (not (s .forbids) && isAny (getD (getD (s .rows) r []) i 0)) || ltb (getD (getD (s .rows) r []) i 0) (getD counts (getD (s .columns) i 0) 0)
+
+lowerTest : List ℕ → List ℕ → Bool
+lowerTest [] ys = false
+lowerTest (x ∷ xs) [] = false
+lowerTest (x ∷ xs) (y ∷ ys) = ltb x y || (eqb x y && lowerTest xs ys)
+
+lower-e : (x y : List ℕ) → lowerTest x y ≡ true → Lower x y
+unfolding lowerTest
+lower-e [] ys e = absurd (false≢true e)
+lower-e (x ∷ xs) [] e = absurd (false≢true e)
+lower-e (x ∷ xs) (y ∷ ys) e = go (or-e (ltb x y) _ e) (lower-e xs ys)
+  where
+    go : (ltb x y ≡ true) ⊎ ((eqb x y && lowerTest xs ys) ≡ true) → (lowerTest xs ys ≡ true → Lower xs ys) → Lower (x ∷ xs) (y ∷ ys)
+    go (inl q) f = record { column = 0; same = λ d l. absurd (not-suc-le-zero l); less = ltb-true x y q }
+    go (inr q) f = let r = f (and-r (eqb x y) _ q) in record { column = suc (r .column); same = same r; less = r .less }
+      where
+        same : (r : Lower xs ys) (d : ℕ) → d < suc (r .column) → getD (x ∷ xs) d 0 ≡ getD (y ∷ ys) d 0
+        same r zero l = eqb-true x y (and-l (eqb x y) _ q)
+        same r (suc d) l = r .same d (le-of-suc-le-suc l)
 
 sheetTest : List ℕ → Sheet → Bool
 sheetTest counts s =
@@ -35,7 +56,8 @@ sheetTest counts s =
     && (allBelow (length (s .columns)) (λ i. ltb (getD (s .columns) i 0) (length counts))
     && (leb (length (s .rows)) 508
     && (allBelow (length (s .rows)) (λ r. eqb (length (getD (s .rows) r [])) (length (s .columns)))
-    && allBelow (length (s .rows)) (λ r. allBelow (length (s .columns)) (cellTest counts s r)))))))
+    && (allBelow (length (s .rows)) (λ r. allBelow (length (s .columns)) (cellTest counts s r))
+    && (not (s .forbids) || allBelow (length (s .rows) - 1) (λ r. lowerTest (getD (s .rows) r []) (getD (s .rows) (suc r) [])))))))))
 
 sheet-well-formed : (counts : List ℕ) (s : Sheet) → sheetTest counts s ≡ true → WellFormedSheet counts s
 unfolding sheetTest cellTest
@@ -54,12 +76,22 @@ sheet-well-formed counts s e1 =
       inside = λ i l. ltb-true _ _ (allBelow-e _ (λ i. ltb (getD (s .columns) i 0) (length counts)) (and-l _ _ e4) i l);
       few-rows = leb-true _ _ (and-l _ _ e5);
       row-size = λ r l. eqb-true _ _ (allBelow-e _ (λ r. eqb (length (getD (s .rows) r [])) (length (s .columns))) (and-l _ _ e6) r l);
-      row-value = λ r i l m. row-cell r i (allBelow-e _ (cellTest counts s r) (allBelow-e _ (λ r. allBelow (length (s .columns)) (cellTest counts s r)) e7 r l) i m);
+      row-value = λ r i l m.
+          row-cell r i (allBelow-e _ (cellTest counts s r) (allBelow-e _ (λ r. allBelow (length (s .columns)) (cellTest counts s r)) (and-l _ _ e7) r l) i m);
+      row-rises = λ f r l.
+          lower-e _ _
+          (allBelow-e (length (s .rows) - 1) (λ r. lowerTest (getD (s .rows) r []) (getD (s .rows) (suc r) []))
+          (rises-then f (and-r (allBelow (length (s .rows)) (λ r. allBelow (length (s .columns)) (cellTest counts s r))) _ e7)) r (omega arith));
     }
   where
     row-cell : (r i : ℕ) → cellTest counts s r i ≡ true
-        → (isAny (getD (getD (s .rows) r []) i 0) ≡ true) ⊎ (getD (getD (s .rows) r []) i 0 < getD counts (getD (s .columns) i 0) 0)
-    row-cell r i e = ⊎-elim inl (λ l. inr (ltb-true _ _ l)) (or-e (isAny (getD (getD (s .rows) r []) i 0)) _ e)
+        → ((s .forbids ≡ false) × (isAny (getD (getD (s .rows) r []) i 0) ≡ true)) ⊎ (getD (getD (s .rows) r []) i 0 < getD counts (getD (s .columns) i 0) 0)
+    row-cell r i e =
+        ⊎-elim (λ q. inl (not-true (s .forbids) (and-l _ _ q), and-r (not (s .forbids)) _ q)) (λ l. inr (ltb-true _ _ l))
+        (or-e (not (s .forbids) && isAny (getD (getD (s .rows) r []) i 0)) _ e)
+
+    rises-then : {t : Bool} → s .forbids ≡ true → (not (s .forbids) || t) ≡ true → t ≡ true
+    rises-then f e = rw f at e
 
 bookTest : Book → Bool
 bookTest b =
@@ -87,7 +119,7 @@ book-well-formed b e1 =
     }
 
 pub booksWellFormed : BooksWellFormed
-unfolding bookTest sheetTest cellTest allBelow allIn
+unfolding bookTest sheetTest cellTest lowerTest allBelow allIn
 booksWellFormed =
     record {
       h = book-well-formed H refl;
@@ -103,6 +135,9 @@ booksWellFormed =
       five = book-well-formed _ refl;
       with-any = book-well-formed _ refl;
       few-any = book-well-formed _ refl;
+      hf = book-well-formed _ refl;
+      none-forbidden = book-well-formed _ refl;
+      all-forbidden = book-well-formed _ refl;
     }
 
 -- HA and its written-out twin
@@ -114,7 +149,7 @@ anyBoard =
 
 -- ---- H2 has one sheet: whatever is allowed, so long as no column is empty
 h2-sheet : (L : List Entry) → allFilled 2 (allowed H2 L) ≡ true → OneSheet H2 (sheetOf (0 ∷ 1 ∷ []) unequal) (allowed H2 L)
-h2-sheet L e = oneSheets H2 _ (allowed H2 L) (booksWellFormed .h2) refl (allowed-store H2 L) (filled-e 2 (allowed H2 L) e)
+h2-sheet L e = oneSheets H2 _ (allowed H2 L) (booksWellFormed .h2) refl refl (allowed-store H2 L) (filled-e 2 (allowed H2 L) e)
 
 -- its opening, where every row is valid, and column 0 narrowed to 1, where one is
 pub h2-opening : OneSheet H2 (sheetOf (0 ∷ 1 ∷ []) unequal) (allowed H2 [])

@@ -1,7 +1,7 @@
 -- The written-out book allows the same combinations, has no 255, and is well-formed where its rows are few enough. Assumes nothing.
 use mathlib.Core.Path.{_≡_, refl, sym, ap, _∙_, subst}
 use mathlib.Core.Bool.{true, false, cond, false≢true, true≢false}
-use mathlib.Core.Logic.{_⊎_, inl, inr}
+use mathlib.Core.Logic.{_⊎_, inl, inr, ⊎-elim}
 use mathlib.Core.List.{List, [], _∷_, map, flatMap, List·Memᴰ, List·Memᴰ·head, List·Memᴰ·tail, List·Memᴰ·not-nil, List·Memᴰ·append-cases, List·Memᴰ·eq-of-singleton, Memᴰ·append-left, Memᴰ·append-right, Memᴰ·map, Memᴰ·of-map}
 use Prim.Native.Nat.{ℕ, zero, suc, _≤_, _<_}
 use native.Mathlib.Nat.{not-suc-le-zero, le-of-suc-le-suc, zero-lt-suc}
@@ -9,12 +9,12 @@ use native.Mathlib.Omega.{arith}
 use lib.ListN.{length, getD, length-map, List·getD-map}
 use borrow.Author.Tests.{ne-eqb}
 use Rattle.model.specs.Tests.{tab}
-use Rattle.model.specs.Books.{Sheet, sheetAt, isAny, matches, rowMatches, allows, WellFormedSheet}
+use Rattle.model.specs.Books.{Sheet, noSheet, sheetAt, isAny, matches, rowMatches, allows, WellFormedSheet}
 use Rattle.model.specs.Twins.{Combination, TwinSheets}
 use Rattle.model.specs.WrittenOut.{writtenCell, writtenRow, writtenSheet, writtenOut, WrittenOutTwins, WrittenOutAnswers, WrittenOutPlain, WrittenOutFormed}
 use Rattle.model.proofs.Tests.{and-l, and-r, and-i, either, same-test, length-tab, getD-tab}
 use Rattle.model.proofs.Books.{matches-any, matches-plain, matches-self, allows-e, allows-i}
-use Rattle.model.proofs.Rows.{at-place, in-list}
+use Rattle.model.proofs.Rows.{at-place, in-list, row-plain, row-self}
 use Rattle.model.proofs.Twins.{twinsAnswer}
 
 -- ---- what a flattened list holds
@@ -93,44 +93,39 @@ row-e counts (c ∷ cs) (x ∷ r) t n h m =
     let w = row-e counts cs r (u .0) (omega arith) (λ i l. h (suc i) (omega arith)) (u .1) in
     rw (← u .2) (and-i (v .0) (w .0), combination-cons counts cs (u .0) c (q .0) (v .1) (w .1))
 
--- a row matches itself, and a plain row nothing else
-row-self : (t : List ℕ) → rowMatches t t ≡ true
-unfolding rowMatches
-row-self [] = refl
-row-self (v ∷ t) = and-i (matches-self v) (row-self t)
-
-row-plain : (r t : List ℕ) → ((i : ℕ) → i < length r → isAny (getD r i 0) ≡ false) → rowMatches r t ≡ true → r ≡ t
-unfolding rowMatches
-row-plain [] [] h e = refl
-row-plain [] (v ∷ t) h e = absurd (false≢true e)
-row-plain (x ∷ r) [] h e = absurd (false≢true e)
-row-plain (x ∷ r) (v ∷ t) h e =
-    let p : x ≡ v = matches-plain x v (h 0 (zero-lt-suc (length r))) (and-l (matches x v) _ e) in
-    let q : r ≡ t = row-plain r t (λ i l. h (suc i) (omega arith)) (and-r (matches x v) _ e) in
-    cc
-
 -- ---- a sheet
-module _ (counts : List ℕ) (s : Sheet) (p : WellFormedSheet counts s) where
+forbidden-same : (counts : List ℕ) (s : Sheet) → s .forbids ≡ true → writtenSheet counts s ≡ s
+unfolding writtenSheet
+forbidden-same counts s f = rw f
+
+-- one that allows its rows
+module _ (counts : List ℕ) (s : Sheet) (p : WellFormedSheet counts s) (f : s .forbids ≡ false) where
+  abbrev written : Sheet
+  written = record { forbids = false; columns = s .columns; rows = flatMap (writtenRow counts (s .columns)) (s .rows) }
+
+  written-same : writtenSheet counts s ≡ written
+  unfolding writtenSheet
+  written-same = rw f
+
   -- what one of its rows stands for
   written-row : (r t : List ℕ) → List·Memᴰ r (s .rows) → List·Memᴰ t (writtenRow counts (s .columns) r)
       → (rowMatches r t ≡ true) × Combination counts (s .columns) t
   written-row r t m k =
       let i = at-place [] r (s .rows) m in
-      row-e counts (s .columns) r t (rw (i .2) at (p .row-size (i .0) (i .1))) (λ j l. rw (i .2) at (p .row-value (i .0) j (i .1) l)) k
+      row-e counts (s .columns) r t (rw (i .2) at (p .row-size (i .0) (i .1)))
+      (λ j l. rw (i .2) at (⊎-elim (λ q. inl (q .1)) (λ q. inr q) (p .row-value (i .0) j (i .1) l))) k
 
   -- its written-out rows are combinations
-  written-plain : (t : List ℕ) → List·Memᴰ t (writtenSheet counts s .rows) → Combination counts (s .columns) t
-  unfolding writtenSheet
+  written-plain : (t : List ℕ) → List·Memᴰ t (written .rows) → Combination counts (s .columns) t
   written-plain t m = let q = flat-e (writtenRow counts (s .columns)) (s .rows) t m in written-row (q .0) t (q .1) (q .2) .1
 
-  written-twin : ((c : ℕ) → c < length counts → getD counts c 0 ≤ 32) → TwinSheets counts s (writtenSheet counts s)
-  unfolding writtenSheet
+  written-twin : ((c : ℕ) → c < length counts → getD counts c 0 ≤ 32) → TwinSheets counts s written
   written-twin few = record { same-columns = refl; same-allowed = λ x k. same-test _ _ (to x k) (from x) }
     where
-      to : (x : List ℕ) → Combination counts (s .columns) x → allows s x ≡ true → allows (writtenSheet counts s) x ≡ true
+      to : (x : List ℕ) → Combination counts (s .columns) x → allows s x ≡ true → allows written x ≡ true
       to x k e =
-          let r = allows-e s x e in
-          allows-i (writtenSheet counts s) x x
+          let r = allows-e s f x e in
+          allows-i written refl x x
           (flat-i (writtenRow counts (s .columns)) (s .rows) (r .0) x (r .1) (row-i counts (s .columns) (r .0) x (r .2) k)) (row-self x)
 
       not-any : (t : List ℕ) → Combination counts (s .columns) t → (i : ℕ) → i < length t → isAny (getD t i 0) ≡ false
@@ -138,16 +133,15 @@ module _ (counts : List ℕ) (s : Sheet) (p : WellFormedSheet counts s) where
           let j : i < length (s .columns) = rw (k .size) at l in
           ne-eqb (getD t i 0) 255 (λ e. omega (arith, k .each i j, few (getD (s .columns) i 0) (p .inside i j)))
 
-      from : (x : List ℕ) → allows (writtenSheet counts s) x ≡ true → allows s x ≡ true
+      from : (x : List ℕ) → allows written x ≡ true → allows s x ≡ true
       from x e =
-          let t = allows-e (writtenSheet counts s) x e in
+          let t = allows-e written refl x e in
           let r = flat-e (writtenRow counts (s .columns)) (s .rows) (t .0) (t .1) in
           let w = written-row (r .0) (t .0) (r .1) (r .2) in
-          allows-i s (r .0) x (r .1) (ap (rowMatches (r .0)) (sym (row-plain (t .0) x (not-any (t .0) (w .1)) (t .2))) ∙ w .0)
+          allows-i s f (r .0) x (r .1) (ap (rowMatches (r .0)) (sym (row-plain (t .0) x (not-any (t .0) (w .1)) (t .2))) ∙ w .0)
 
   -- "k values, each below its column's V"
-  written-formed : length (writtenSheet counts s .rows) ≤ 508 → WellFormedSheet counts (writtenSheet counts s)
-  unfolding writtenSheet
+  written-formed : length (written .rows) ≤ 508 → WellFormedSheet counts written
   written-formed few =
       record {
         some-column = p .some-column;
@@ -155,9 +149,42 @@ module _ (counts : List ℕ) (s : Sheet) (p : WellFormedSheet counts s) where
         rising = p .rising;
         inside = p .inside;
         few-rows = few;
-        row-size = λ r l. written-plain _ (in-list [] (writtenSheet counts s .rows) r l) .size;
-        row-value = λ r i l m. inr (written-plain _ (in-list [] (writtenSheet counts s .rows) r l) .each i m);
+        row-size = λ r l. written-plain _ (in-list [] (written .rows) r l) .size;
+        row-value = λ r i l m. inr (written-plain _ (in-list [] (written .rows) r l) .each i m);
+        row-rises = λ e. absurd (false≢true e);
       }
+
+-- ---- a sheet of either kind
+module _ (counts : List ℕ) (s : Sheet) (p : WellFormedSheet counts s) where
+  sheet-twin : ((c : ℕ) → c < length counts → getD counts c 0 ≤ 32) → TwinSheets counts s (writtenSheet counts s)
+  sheet-twin few = go (either (s .forbids))
+    where
+      go : (s .forbids ≡ true) ⊎ (s .forbids ≡ false) → TwinSheets counts s (writtenSheet counts s)
+      go (inl e) = rw (forbidden-same counts s e) (record { same-columns = refl; same-allowed = λ x k. refl })
+      go (inr e) = rw (written-same counts s p e) (written-twin counts s p e few)
+
+  sheet-plain : (t : List ℕ) → List·Memᴰ t (writtenSheet counts s .rows) → Combination counts (writtenSheet counts s .columns) t
+  sheet-plain = go (either (s .forbids))
+    where
+      cell : s .forbids ≡ true → (r i : ℕ) → r < length (s .rows) → i < length (s .columns)
+          → getD (getD (s .rows) r []) i 0 < getD counts (getD (s .columns) i 0) 0
+      cell e r i l m = ⊎-elim (λ q. absurd (true≢false (sym e ∙ q .0))) (λ q. q) (p .row-value r i l m)
+
+      go : (s .forbids ≡ true) ⊎ (s .forbids ≡ false) → (t : List ℕ) → List·Memᴰ t (writtenSheet counts s .rows)
+          → Combination counts (writtenSheet counts s .columns) t
+      go (inl e) =
+          rw (forbidden-same counts s e)
+          (λ t m.
+          let i = at-place [] t (s .rows) m in
+          rw (← i .2) (record { size = p .row-size (i .0) (i .1); each = λ j l. cell e (i .0) j (i .1) l }))
+      go (inr e) = rw (written-same counts s p e) (written-plain counts s p e)
+
+  sheet-formed : length (writtenSheet counts s .rows) ≤ 508 → WellFormedSheet counts (writtenSheet counts s)
+  sheet-formed = go (either (s .forbids))
+    where
+      go : (s .forbids ≡ true) ⊎ (s .forbids ≡ false) → length (writtenSheet counts s .rows) ≤ 508 → WellFormedSheet counts (writtenSheet counts s)
+      go (inl e) = rw (forbidden-same counts s e) (λ l. p)
+      go (inr e) = rw (written-same counts s p e) (written-formed counts s p e)
 
 -- ---- the book
 pub writtenOutTwins : WrittenOutTwins
@@ -167,8 +194,8 @@ writtenOutTwins b p =
       same-counts = refl;
       as-many = sym (length-map (b .sheets) (writtenSheet (b .counts)));
       sheets = λ s l.
-          rw (List·getD-map (writtenSheet (b .counts)) (b .sheets) s (record { columns = []; rows = [] }))
-          (written-twin (b .counts) (sheetAt b s) (p .sheet (sheetAt b s) (in-list _ (b .sheets) s l)) (p .few-values));
+          rw (List·getD-map (writtenSheet (b .counts)) (b .sheets) s noSheet)
+          (sheet-twin (b .counts) (sheetAt b s) (p .sheet (sheetAt b s) (in-list _ (b .sheets) s l)) (p .few-values));
     }
 
 pub writtenOutAnswers : WrittenOutAnswers
@@ -181,7 +208,7 @@ writtenOutPlain b p =
       row = λ s m r k.
           let q = Memᴰ·of-map (writtenSheet (b .counts)) (b .sheets) m in
           subst (λ (t : Sheet). List·Memᴰ r (t .rows) → Combination (b .counts) (t .columns) r) (q .2)
-          (written-plain (b .counts) (q .0) (p .sheet (q .0) (q .1)) r) k;
+          (sheet-plain (b .counts) (q .0) (p .sheet (q .0) (q .1)) r) k;
     }
 
 pub writtenOutFormed : WrittenOutFormed
@@ -195,5 +222,5 @@ writtenOutFormed b p few =
       few-values = p .few-values;
       sheet = λ s m.
           let q = Memᴰ·of-map (writtenSheet (b .counts)) (b .sheets) m in
-          rw (← q .2) (written-formed (b .counts) (q .0) (p .sheet (q .0) (q .1)) (rw (q .2) (few s m)));
+          rw (← q .2) (sheet-formed (b .counts) (q .0) (p .sheet (q .0) (q .1)) (rw (q .2) (few s m)));
     }

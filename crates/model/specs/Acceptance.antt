@@ -2,8 +2,9 @@
 -- them what the search finds and with how many tries, refusals, bytes, valid rows, done sheets, and what demand 3 leaves free. Each record is proved in proofs/Acceptance.antt under
 -- its name with a small letter; `BooksWellFormed`, `RowFacts` and `AnyBoard` in proofs/Witness.antt.
 use mathlib.Core.Path.{_≡_}
+use mathlib.Core.Bool.{true, false}
 use mathlib.Core.Option.{none, some}
-use mathlib.Core.List.{List, [], _∷_}
+use mathlib.Core.List.{List, [], _∷_, _++_}
 use Prim.Native.Nat.{ℕ, zero, suc}
 use lib.ListN.{replicate}
 use Rattle.fields.specs.Bytes.{byteAt}
@@ -11,13 +12,13 @@ use Rattle.model.specs.Books.{Sheet, Book, WellFormed, sheetAt}
 use Rattle.model.specs.Search.{searched}
 use Rattle.model.specs.Orders.{tryLimit, Entry, checkpoint, refusal, trail, domains}
 use Rattle.model.specs.Answers.{Answer, answers, lastAnswer, acceptedCount, answerBytes}
-use Rattle.model.specs.States.{validWord, StateOf}
+use Rattle.model.specs.States.{choicesBut, validRowsAt, validWord, StateOf}
 use Rattle.model.specs.Demands.{SameAllowed}
 use Rattle.model.specs.Twins.{SameAnswers}
 use Rattle.model.specs.WrittenOut.{writtenRow, writtenSheet, writtenOut}
 
 abbrev pub sheetOf : List ℕ → List (List ℕ) → Sheet
-sheetOf cs rs = record { columns = cs; rows = rs }
+sheetOf cs rs = record { forbids = false; columns = cs; rows = rs }
 
 -- "H has three columns: 0 width with V 3, 1 motor with V 2, 2 board with V 2. … Sheet 0 (width, motor): 00 10 11 21. Sheet 1 (motor,
 -- board): 00 01 11."
@@ -288,6 +289,44 @@ pub record DoneFacts : Type 0 where
   -- "the session isn't dead"
   pub failed : lastAnswer (pairs 2 fourRows) (narrow 1 0 ∷ []) ≡ line 0 0 0 0 0 (0 ∷ 0 ∷ [])
 
+-- ---- forbidden sheets
+-- a sheet of "the few sets that clash"
+abbrev pub clashes : List ℕ → List (List ℕ) → Sheet
+clashes cs rs = record { forbids = true; columns = cs; rows = rs }
+
+-- two columns of 2 values, and these pairs forbidden
+abbrev pub without : List (List ℕ) → Book
+without rs = record { counts = 2 ∷ 2 ∷ []; sheets = clashes (0 ∷ 1 ∷ []) rs ∷ [] }
+
+-- H with a forbidden pair: width 0 does not go with board 0
+abbrev pub HF : Book
+HF = record { counts = H .counts; sheets = H .sheets ++ (clashes (0 ∷ 2 ∷ []) ((0 ∷ 0 ∷ []) ∷ []) ∷ []) }
+
+pub record ForbiddenFacts : Type 0 where
+  -- "no rows forbid nothing", and the sheet is done; all four rows leave nothing
+  pub no-rows : lastAnswer (without []) [] ≡ line 0 1 0 1 0 (3 ∷ 3 ∷ [])
+  pub all-rows : lastAnswer (without fourRows) [] ≡ line 0 0 0 0 0 (0 ∷ 0 ∷ [])
+  -- "a combination is allowed when it isn't a row": each value has another partner, and one loses it though no row is cut
+  pub one-row : lastAnswer (without ((0 ∷ 0 ∷ []) ∷ [])) [] ≡ line 0 1 0 0 0 (3 ∷ 3 ∷ [])
+  pub no-row-cut : lastAnswer (without ((0 ∷ 0 ∷ []) ∷ [])) (narrow 1 1 ∷ []) ≡ line 0 2 0 1 0 (2 ∷ 1 ∷ [])
+  -- a value that clashes with all of the other column is struck, and its rows are valid no more
+  pub own-strike : lastAnswer (without ((0 ∷ 0 ∷ []) ∷ (0 ∷ 1 ∷ []) ∷ [])) [] ≡ line 0 1 0 1 0 (2 ∷ 3 ∷ [])
+  pub own-rows : validWord (2 ∷ 3 ∷ []) (clashes (0 ∷ 1 ∷ []) ((0 ∷ 0 ∷ []) ∷ (0 ∷ 1 ∷ []) ∷ [])) 0 ≡ 0
+  -- counting: two rows have value 0 at place 0, as many as there are choices for place 1; one has value 1 at place 1, of two
+  pub counted : validRowsAt (3 ∷ 3 ∷ []) (clashes (0 ∷ 1 ∷ []) ((0 ∷ 0 ∷ []) ∷ (0 ∷ 1 ∷ []) ∷ [])) 0 0 ≡ 2
+  pub choices : choicesBut (3 ∷ 3 ∷ []) (clashes (0 ∷ 1 ∷ []) ((0 ∷ 0 ∷ []) ∷ (0 ∷ 1 ∷ []) ∷ [])) 0 ≡ 2
+  pub fewer : validRowsAt (3 ∷ 3 ∷ []) (clashes (0 ∷ 1 ∷ []) ((0 ∷ 0 ∷ []) ∷ (0 ∷ 1 ∷ []) ∷ [])) 1 1 ≡ 1
+  -- a mixed book: the opening shows what H does; the first full set is the second of H; board 0 leaves width 1 alone; with board 1 the pair cannot be
+  -- had, and the sheet is done
+  pub opening : lastAnswer HF [] ≡ line 0 1 0 0 0 (7 ∷ 3 ∷ 3 ∷ [])
+  pub first-set : lastAnswer HF (finish ∷ []) ≡ tried 1 0 1 0 0 1 (1 ∷ 1 ∷ 2 ∷ [])
+  pub board-0 : lastAnswer HF (narrow 2 1 ∷ []) ≡ line 0 2 0 7 0 (2 ∷ 1 ∷ 1 ∷ [])
+  pub board-1 : lastAnswer HF (narrow 2 2 ∷ []) ≡ line 0 1 0 6 0 (7 ∷ 3 ∷ 2 ∷ [])
+  -- two lists with equal allowed values end alike there, and a narrower one within a wider
+  pub same-lists : SameAllowed HF (trail HF (mark ∷ narrow 2 1 ∷ [])) (trail HF (narrow 2 3 ∷ narrow 2 1 ∷ []))
+  pub same-ends : lastAnswer HF (narrow 2 3 ∷ narrow 2 1 ∷ []) ≡ line 0 2 0 7 0 (2 ∷ 1 ∷ 1 ∷ [])
+  pub narrower-end : lastAnswer HF (narrow 0 5 ∷ narrow 2 2 ∷ []) ≡ line 0 1 0 6 0 (5 ∷ 3 ∷ 2 ∷ [])
+
 -- ---- the books of this page are well-formed
 pub record BooksWellFormed : Type 0 where
   pub h : WellFormed H
@@ -303,6 +342,9 @@ pub record BooksWellFormed : Type 0 where
   pub five : WellFormed (pairs 3 fiveRows)
   pub with-any : WellFormed (pairs 2 anyRows)
   pub few-any : WellFormed (pairs 2 fewAnyRows)
+  pub hf : WellFormed HF
+  pub none-forbidden : WellFormed (without [])
+  pub all-forbidden : WellFormed (without fourRows)
 
 -- "Depth and byte 0 may differ between the lists": a mark, or an order of an unknown kind, after the opening
 abbrev pub unknown : List ℕ

@@ -3,18 +3,19 @@ use mathlib.Core.Path.{_≡_}
 use mathlib.Core.Bool.{Bool, true, false, cond, not, _&&_, _||_}
 use mathlib.Core.Logic.{_⊎_}
 use mathlib.Core.List.{List, [], _∷_, List·Memᴰ}
-use Prim.Native.Nat.{ℕ, _^_, _≤_, _<_}
+use Prim.Native.Nat.{ℕ, suc, _^_, _≤_, _<_}
 use lib.Dec.{eqb, ltb}
 use lib.ListN.{length, getD}
 use Rattle.model.specs.Tests.{allIn, anyIn}
 use Rattle.model.specs.Masks.{bit}
 use Rattle.model.specs.Stores.{has, Within}
 use Rattle.model.specs.Closure.{closureOf}
-use Rattle.model.specs.Choices.{pick, Takes, anyChoice}
+use Rattle.model.specs.Choices.{pick, Lower, Takes, anyChoice}
 
 -- ---- books
--- a sheet: its columns, rising, and its rows, each with one value for each of those columns
+-- a sheet: whether its rows are "the few sets that clash", its columns, rising, and its rows, each with one value for each of those columns
 pub record Sheet : Type 0 where
+  pub forbids : Bool
   pub columns : List ℕ
   pub rows : List (List ℕ)
 
@@ -27,9 +28,13 @@ pub record Book : Type 0 where
 abbrev pub columnCount : Book → ℕ
 columnCount b = length (b .counts)
 
+-- what stands for a sheet that the book does not have
+abbrev pub noSheet : Sheet
+noSheet = record { forbids = false; columns = []; rows = [] }
+
 -- sheet s of the book
 abbrev pub sheetAt : Book → ℕ → Sheet
-sheetAt b s = getD (b .sheets) s (record { columns = []; rows = [] })
+sheetAt b s = getD (b .sheets) s noSheet
 
 -- "Row byte 255 in a used column stands for all its values."
 abbrev pub isAny : ℕ → Bool
@@ -51,11 +56,17 @@ rowMatches [] (v ∷ t) = false
 rowMatches (x ∷ r) [] = false
 rowMatches (x ∷ r) (v ∷ t) = matches x v && rowMatches r t
 
--- the sheet allows the values t in its columns: "Full sets match in the same way". Nothing else looks at rows to say what is allowed
-unfoldable pub allows : Sheet → List ℕ → Bool
-allows s t = anyIn (s .rows) (λ r. rowMatches r t)
+-- the values t match a row of the sheet: "Full sets match in the same way"
+unfoldable pub isRow : Sheet → List ℕ → Bool
+isRow s t = anyIn (s .rows) (λ r. rowMatches r t)
 
--- "width k, 1 to 4", "k column numbers below C, each above the one before", "rows n, 0 to 508", "k values, each below its column's V", or 255
+-- the sheet allows the values t in its columns: they match a row; of a forbidden sheet, "There a combination is allowed when it isn't a row, and no
+-- rows forbid nothing". Nothing else looks at rows to say what is allowed
+unfoldable pub allows : Sheet → List ℕ → Bool
+allows s t = cond (s .forbids) (not (isRow s t)) (isRow s t)
+
+-- "width k, 1 to 4", "k column numbers below C, each above the one before", "rows n, 0 to 508", "k values, each below its column's V", or 255. Of a
+-- forbidden sheet: "Its rows rise strictly as byte strings; 255 is refused"
 pub record WellFormedSheet (counts : List ℕ) (s : Sheet) : Type 0 where
   pub some-column : 0 < length (s .columns)
   pub few-columns : length (s .columns) ≤ 4
@@ -64,7 +75,8 @@ pub record WellFormedSheet (counts : List ℕ) (s : Sheet) : Type 0 where
   pub few-rows : length (s .rows) ≤ 508
   pub row-size : (r : ℕ) → r < length (s .rows) → length (getD (s .rows) r []) ≡ length (s .columns)
   pub row-value : (r i : ℕ) → r < length (s .rows) → i < length (s .columns)
-      → (isAny (getD (getD (s .rows) r []) i 0) ≡ true) ⊎ (getD (getD (s .rows) r []) i 0 < getD counts (getD (s .columns) i 0) 0)
+      → ((s .forbids ≡ false) × (isAny (getD (getD (s .rows) r []) i 0) ≡ true)) ⊎ (getD (getD (s .rows) r []) i 0 < getD counts (getD (s .columns) i 0) 0)
+  pub row-rises : s .forbids ≡ true → (r : ℕ) → suc r < length (s .rows) → Lower (getD (s .rows) r []) (getD (s .rows) (suc r) [])
 
 -- "columns C, 1 to 16", "sheets S, 0 to 8", "values V of column i, 1 to 32"
 pub record WellFormed (b : Book) : Type 0 where
@@ -77,8 +89,8 @@ pub record WellFormed (b : Book) : Type 0 where
 
 -- ---- what settled means
 -- a support: an allowed tuple, with one value of each domain of the sheet's columns in B (`pick`, `Takes`: Choices), that has the value v at place i.
--- There is one exactly when a row of the sheet lies in B and carries v there (`SupportsByRows`, States). That there is one is formula (3.2) of document
--- 000: (currTable ∩ supports[x, a]) ≠ ∅
+-- Where rows are allowed there is one exactly when a row of the sheet lies in B and carries v there (`SupportsByRows`, States). That there is one is
+-- formula (3.2) of document 000: (currTable ∩ supports[x, a]) ≠ ∅. Where they are forbidden, rows are counted (`SupportsByCounting`)
 pub record Support (B : List ℕ) (s : Sheet) (i v : ℕ) : Type 0 where
   pub tuple : List ℕ
   pub sheet-allows : allows s tuple ≡ true
@@ -86,7 +98,7 @@ pub record Support (B : List ℕ) (s : Sheet) (i v : ℕ) : Type 0 where
   pub value : getD tuple i 0 ≡ v
 
 -- a consistent store: "A sound box has no empty column, and in it, for each sheet, every value of every column of that sheet is carried
--- by a row of that sheet lying in the box"
+-- by a row of that sheet lying in the box"; with forbidden sheets, "Sound boxes, full sets and done then go by allowed combinations"
 pub record ConsistentStore (b : Book) (B : List ℕ) : Type 0 where
   pub filled : (c : ℕ) → c < columnCount b → (v : ℕ) × (has B c v ≡ true)
   pub support : (s : Sheet) → List·Memᴰ s (b .sheets) → (i : ℕ) → i < length (s .columns)
@@ -115,7 +127,15 @@ unfoldable pub supportedIn : List ℕ → ℕ → ℕ → Sheet → Bool
 supportedIn B c v s =
     not (anyIn (s .columns) (eqb c)) || anyChoice (pick B (s .columns)) (λ t. allows s t && supports (s .columns) t c v)
 
--- the same of every sheet: the book's support test
+-- "both kinds share one proof of settling, done for any allowed set": E is D without the values that have no support in the sheet. Then each value left has
+-- support in E itself (`settles-seen`), and all columns of the sheet are empty or none that had a value is (`settles-filled`, `settles-failed`:
+-- proofs/Settling.antt, where nothing is known of `allows`)
+pub record Settles (D E : List ℕ) (s : Sheet) : Type 0 where
+  pub within : Within E D
+  pub struck : (c v : ℕ) → has D c v ≡ true → (has E c v ≡ true) ⊎ (supportedIn D c v s ≡ false)
+  pub left : (c v : ℕ) → has E c v ≡ true → supportedIn D c v s ≡ true
+
+-- every sheet supports v in column c: the book's support test
 unfoldable pub supported : Book → List ℕ → ℕ → ℕ → Bool
 supported b B c v = allIn (b .sheets) (supportedIn B c v)
 

@@ -4,12 +4,14 @@ use mathlib.Core.Path.{_≡_}
 use mathlib.Core.Bool.{Bool, true, false, _&&_}
 use mathlib.Core.Logic.{_↔_}
 use mathlib.Core.List.{List, [], _∷_}
-use Prim.Native.Nat.{ℕ, _+_, _*_, _≤_, _<_}
-use lib.Dec.{ltb}
+use Prim.Native.Nat.{ℕ, _+_, _*_, _^_, _≤_, _<_}
+use lib.Dec.{eqb, ltb}
 use lib.ListN.{length, getD}
+use Rattle.model.specs.Tests.{count}
 use Rattle.model.specs.Masks.{maskOf}
 use Rattle.model.specs.Stores.{has, IsStore}
-use Rattle.model.specs.Books.{Sheet, Book, Support, columnCount, WellFormed, closure, inDomain, matches, sheetAt}
+use Rattle.model.specs.Choices.{pick, spaceBut}
+use Rattle.model.specs.Books.{Sheet, Book, Support, columnCount, WellFormed, WellFormedSheet, closure, inDomain, matches, sheetAt}
 
 -- "A row lies in a box when its other values do and the 255 columns aren't empty": one cell for each of these columns
 unfoldable pub valid : List ℕ → List ℕ → List ℕ → Bool
@@ -31,9 +33,25 @@ pub record ValidSupport (D : List ℕ) (s : Sheet) (i v : ℕ) : Type 0 where
   pub there : has D (getD (s .columns) i 0) v ≡ true
 
 -- there is one exactly when there is a support (Books): so a sound box, which speaks of allowed combinations, is one in which "every value of every
--- column of that sheet is carried by a row of that sheet lying in the box". Proved as `supportsByRows` (proofs/Rows.antt)
+-- column of that sheet is carried by a row of that sheet lying in the box". Proved as `supportsByRows` (proofs/Rows.antt), of sheets that allow their rows
 abbrev pub SupportsByRows : Type 0
-SupportsByRows = (D : List ℕ) (s : Sheet) (i v : ℕ) → i < length (s .columns) → Support D s i v ↔ ValidSupport D s i v
+SupportsByRows = (D : List ℕ) (s : Sheet) → s .forbids ≡ false → (i v : ℕ) → i < length (s .columns) → Support D s i v ↔ ValidSupport D s i v
+
+-- how many rows of the sheet are valid in D and have the value v at place i
+unfoldable pub validRowsAt : List ℕ → Sheet → ℕ → ℕ → ℕ
+validRowsAt D s i v = count (length (s .rows)) (λ r. validRow D s r && eqb (getD (getD (s .rows) r []) i 0) v)
+
+-- how many choices D has for the other places of the sheet
+abbrev pub choicesBut : List ℕ → Sheet → ℕ → ℕ
+choicesBut D s i = spaceBut i (pick D (s .columns))
+
+-- of a forbidden sheet, whose rows do not repeat, the value v of place i has support exactly when fewer valid rows have it there than there are choices for
+-- the other places. Proved as `supportsByCounting` (proofs/Counting.antt)
+abbrev pub SupportsByCounting : Type 0
+SupportsByCounting =
+    (D counts : List ℕ) (s : Sheet) → WellFormedSheet counts s → ((c : ℕ) → c < length counts → getD counts c 0 ≤ 32) → ((c : ℕ) → getD D c 0 < 2 ^ 32)
+    → s .forbids ≡ true → (i v : ℕ) → i < length (s .columns)
+    → has D (getD (s .columns) i 0) v ≡ true → Support D s i v ↔ (validRowsAt D s i v < choicesBut D s i)
 
 -- "For one sheet this is formulas (3.1) and (3.2) of source document 000": the closure of A where s is the only sheet, from the rows that
 -- are valid in A itself, once and with no fixed point
@@ -47,11 +65,11 @@ pub record OneSheet (b : Book) (s : Sheet) (A : List ℕ) : Type 0 where
   pub other : (c : ℕ) → ((i : ℕ) → i < length (s .columns) → getD (s .columns) i 0 ≡ c → ⊥) → (v : ℕ)
       → (has (closure b A) c v ≡ true) ↔ ((has A c v ≡ true) × ((r : ℕ) × (validRow A s r ≡ true)))
 
--- so it is for every well-formed book with one sheet and every store with no empty column (with one, no consistent store lies within).
+-- so it is for every well-formed book with one sheet that allows its rows and every store with no empty column (with one, no consistent store lies within).
 -- Proved as `oneSheets` (proofs/OneSheet.antt)
 abbrev pub OneSheets : Type 0
 OneSheets =
-    (b : Book) (s : Sheet) (A : List ℕ) → WellFormed b → b .sheets ≡ s ∷ [] → IsStore (columnCount b) A
+    (b : Book) (s : Sheet) (A : List ℕ) → WellFormed b → b .sheets ≡ s ∷ [] → s .forbids ≡ false → IsStore (columnCount b) A
     → ((c : ℕ) → c < columnCount b → (v : ℕ) × (has A c v ≡ true)) → OneSheet b s A
 
 -- word w of the sheet's valid rows: "Row r is bit r mod 64 of word r div 64"

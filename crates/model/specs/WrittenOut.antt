@@ -1,6 +1,6 @@
 -- A book with its short rows, those with 255, written out as plain rows: "What a buyer sees of an accepted book must equal a book with such rows
 -- written out, where that book is within the limits." What runs over the two leave: `WrittenOutRuns` (crate promises).
-use mathlib.Core.Bool.{cond}
+use mathlib.Core.Bool.{false, cond}
 use mathlib.Core.List.{List, [], _∷_, List·Memᴰ, map, flatMap}
 use Prim.Native.Nat.{ℕ, _≤_}
 use lib.ListN.{length, getD}
@@ -19,9 +19,9 @@ writtenRow counts [] (x ∷ r) = []
 writtenRow counts (c ∷ cs) [] = []
 writtenRow counts (c ∷ cs) (x ∷ r) = flatMap (λ v. map (λ t. v ∷ t) (writtenRow counts cs r)) (writtenCell (getD counts c 0) x)
 
--- "such rows written out": a sheet with the rows that its rows stand for, in their order
+-- "such rows written out": a sheet with the rows that its rows stand for, in their order. A forbidden sheet has no such rows, and stays
 unfoldable pub writtenSheet : List ℕ → Sheet → Sheet
-writtenSheet counts s = record { columns = s .columns; rows = flatMap (writtenRow counts (s .columns)) (s .rows) }
+writtenSheet counts s = cond (s .forbids) s (record { forbids = false; columns = s .columns; rows = flatMap (writtenRow counts (s .columns)) (s .rows) })
 
 -- "a book with such rows written out"
 unfoldable pub writtenOut : Book → Book

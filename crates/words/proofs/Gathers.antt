@@ -9,21 +9,26 @@ use native.Mathlib.Omega.{arith}
 use lib.Arith.{lt-of-le-ne}
 use lib.Bits.{bitAnd, bitOr}
 use lib.Dec.{eqb}
-use lib.ListN.{getD, length-set, replicate, set}
+use lib.ListN.{getD, length, length-set, replicate, set}
 use lib.Seq.{getD-set-other, getD-set-same}
 use borrow.Author.Tests.{eqb-false, eqb-true, not-false}
-use Rattle.model.specs.Books.{isAny, matches}
+use Rattle.model.specs.Books.{Sheet, isAny, matches, sheetAt, supportedIn}
 use Rattle.model.specs.Masks.{bit}
-use Rattle.model.specs.States.{ofSheet}
+use Rattle.model.specs.States.{ValidSupport, ofSheet, validRow}
+use Rattle.model.specs.Stores.{IsStore, has}
 use Rattle.model.specs.Tests.{Finds}
 use Rattle.model.proofs.Books.{matches-any, matches-plain, matches-self}
 use Rattle.model.proofs.Masks.{bit-and, bit-below, bit-of-zero, bit-or, ones32, some-bit}
-use Rattle.model.proofs.Tests.{and-i, and-l, and-r, below, either, or-false-l, or-false-r, positive}
+use Rattle.model.proofs.Rows.{supportsByRows}
+use Rattle.model.proofs.Settling.{supported-iff}
+use Rattle.model.proofs.Tests.{and-i, and-l, and-r, below, either, or-false-l, or-false-r, positive, same-test}
+use Rattle.book.specs.Decoding.{bookOf}
+use Rattle.heads.specs.Heads.{columnOf, forbidsOf, widthOf}
 use Rattle.cells.specs.Cells.{Covered, Gathered, IsCell, KeptAny, SmallSets, cellAt, fourOf}
-use Rattle.words.specs.Sheets.{AtSheet, NothingMissed, PlainSeen, SeenOr, SetSupport, SheetWords, ShortPlaces, Supported, Widened, anyAt, isSet, valueAt}
+use Rattle.words.specs.Sheets.{AtSheet, FindsSupported, NothingMissed, PlainSeen, RowsAre, SeenOr, SetSupport, SheetWords, ShortPlaces, Supported, Wanted, Widened, anyAt, isSet, valueAt}
 use Rattle.words.proofs.Cuts.{row-word}
 use Rattle.words.proofs.Indexes.{past-limit, set-below}
-use Rattle.words.proofs.Places.{value-is}
+use Rattle.words.proofs.Places.{column-value, columns-size, formed, row-value, rows-few, sheet-forbids, sheet-in, valid-e, value-is, width-most}
 use Rattle.cells.proofs.Ones.{complement, ones-bit}
 use Rattle.cells.proofs.Walks.{four-all}
 
@@ -330,3 +335,67 @@ module _ {b : List ℕ} {begin s : ℕ} (a : AtSheet b begin s) {W X N : List �
           → bit v (getD (set y j ones32) i 0) ≡ true
       put i v (inl e) m g = let q = eqb-true i j e in rw (q, here) (ones-bit 32 v m)
       put i v (inr e) m g = let n = eqb-false i j e in rw (getD-set-other y j i ones32 0 n) (g n)
+
+-- ---- the domains of the places
+pub wanted-none : {b : List ℕ} {s : ℕ} {D x : List ℕ} → x ≡ replicate 4 1 → Wanted b s D 0 x
+wanted-none {b} {s} {D} {x} e = record { small = rw e (same-sets 1 (omega arith)); at = λ j l. absurd (omega arith); rest = λ j l m. ap (λ (y : List ℕ). getD y j 0) e ∙ four-all (λ j. _≡_ {A = ℕ} (getD (replicate 4 1) j 0) 1) refl refl refl refl j m }
+
+pub wanted-more : {b : List ℕ} {s n c : ℕ} {D x : List ℕ} → Wanted b s D n x → n < 4 → c ≡ columnOf b s n → IsStore 16 D → Wanted b s D (n + 1) (set x n (getD D c 0))
+wanted-more {b} {s} {n} {c} {D} {x} h l e d =
+    record {
+      small = record { size = length-set x n _ ∙ h .small .size; fits = set-below x n (getD D c 0) (2 ^ 32) (d .bits c) (h .small .fits) };
+      at = λ j m. go j (below j n) m;
+      rest = λ j m q. getD-set-other x n j (getD D c 0) 0 (λ z. omega arith) ∙ h .rest j (omega arith) q;
+    }
+  where
+    go : (j : ℕ) → (j < n) ⊎ (n ≤ j) → j < n + 1 → getD (set x n (getD D c 0)) j 0 ≡ getD D (columnOf b s j) 0
+    go j (inl p) m = getD-set-other x n j (getD D c 0) 0 (λ z. omega arith) ∙ h .at j p
+    go j (inr p) m =
+        let z : j ≡ n = omega arith in
+        rw z (getD-set-same x n (getD D c 0) 0 (omega (arith, h .small .size)) ∙ ap (λ (i : ℕ). getD D i 0) e)
+
+-- ---- in the model's words: a sheet that allows its rows
+module _ {b : List ℕ} {begin s : ℕ} (a : AtSheet b begin s) (plain : forbidsOf b s ≡ false) where
+  abbrev sheet : Sheet
+  sheet = sheetAt (bookOf b) s
+
+  -- a value has support exactly when a valid row carries it
+  pub row-supported : {D : List ℕ} → IsStore 16 D → (j v : ℕ) → j < widthOf b s
+      → (supportedIn D (columnOf b s j) v sheet ≡ true → ValidSupport D sheet j v) × (ValidSupport D sheet j v → supportedIn D (columnOf b s j) v sheet ≡ true)
+  row-supported {D} d j v l =
+      let k : j < length (sheet .columns) = omega (arith, columns-size a) in
+      let p = supported-iff D (bookOf b .counts) (d .bits) sheet (formed a .sheet sheet (sheet-in a)) j v k in
+      let q = supportsByRows D sheet (sheet-forbids a ∙ plain) j v k in
+      rw (← column-value a j l) (λ e. q .0 (p .0 e), λ k. p .1 (q .1 k))
+
+  -- a row that is valid in D and matches a value of D gives it support
+  pub row-gives : {D : List ℕ} → IsStore 16 D → (r j v : ℕ) → j < widthOf b s → validRow D sheet r ≡ true → matches (valueAt b s r j) v ≡ true
+      → has D (columnOf b s j) v ≡ true → supportedIn D (columnOf b s j) v sheet ≡ true
+  row-gives {D} d r j v l e m t =
+      row-supported d j v l .1
+      (record { row = r; is-valid = e; value = ap (λ (x : ℕ). matches x v) (row-value a r j (valid-e a D r e .0) l) ∙ m; there = rw (column-value a j l) t })
+
+  -- and a value with support has such a row
+  pub row-given : {D : List ℕ} → IsStore 16 D → (j v : ℕ) → j < widthOf b s → supportedIn D (columnOf b s j) v sheet ≡ true
+      → (r : ℕ) × (r < 512) × (validRow D sheet r ≡ true) × (matches (valueAt b s r j) v ≡ true)
+  row-given {D} d j v l e =
+      let u = row-supported d j v l .0 e in
+      let n = valid-e a D (u .row) (u .is-valid) .0 in
+      (u .row, omega (arith, n, rows-few a), u .is-valid, ap (λ (x : ℕ). matches x v) (sym (row-value a (u .row) j n l)) ∙ u .value)
+
+  pub carried-supported : {W x y : List ℕ} → Supported b s W x y → FindsSupported b s W x y
+  unfolding has
+  carried-supported {W} {x} {y} h = record { at = λ D d w r j v l e. same-test _ _ (sound D d r j v l e) (complete D d w r j v l e) }
+    where
+      sound : (D : List ℕ) → IsStore 16 D → RowsAre b s D W → (j v : ℕ) → j < widthOf b s → has D (columnOf b s j) v ≡ true → bit v (getD y j 0) ≡ true
+          → supportedIn D (columnOf b s j) v (sheetAt (bookOf b) s) ≡ true
+      sound D d r j v l e t =
+          let u = h .sound j v (omega (arith, width-most a .1)) t in
+          row-gives d (u .row) j v l (sym (r .at (u .row) (u .small)) ∙ u .set-row) (u .value) e
+
+      complete : (D : List ℕ) → IsStore 16 D → Wanted b s D (widthOf b s) x → RowsAre b s D W → (j v : ℕ) → j < widthOf b s → has D (columnOf b s j) v ≡ true
+          → supportedIn D (columnOf b s j) v (sheetAt (bookOf b) s) ≡ true → bit v (getD y j 0) ≡ true
+      complete D d w r j v l e t =
+          let u = row-given d j v l t in
+          h .complete j v (omega (arith, width-most a .1)) (rw (w .at j l) e)
+          (record { row = u .0; small = u .1; set-row = r .at (u .0) (u .1) ∙ u .2; value = u .3 })

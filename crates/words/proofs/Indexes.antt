@@ -1,19 +1,24 @@
 -- Laws of the index: what a change of one word and a drop past the limit make of it. Assumes nothing.
 -- ---- entries of one sheet in an array with eight for each sheet
-use mathlib.Core.Path.{_∙_, _≡_, ap, refl, sym}
-use mathlib.Core.Bool.{cond, false, true}
+use mathlib.Core.Path.{_∙_, _≡_, ap, ap₂, refl, sym}
+use mathlib.Core.Bool.{Bool, cond, false, true}
 use mathlib.Core.Logic.{_↔_, _⊎_, inl, inr, ⊎-elim}
 use mathlib.Core.List.{List, [], _∷_}
-use Prim.Native.Nat.{_*_, _+_, _-_, _<_, _≤_, suc, zero, ℕ}
+use Prim.Native.Nat.{_%_, _*_, _+_, _-_, _/_, _<_, _≤_, suc, zero, ℕ}
+use native.Mathlib.Numerals.{add-one}
 use native.Mathlib.Omega.{arith}
 use lib.Arith.{lt-of-le-ne}
+use lib.Count.{ones, ones-le}
 use lib.Dec.{eqb}
 use lib.ListN.{getD, length, length-set, set}
 use lib.Seq.{getD-set-other, getD-set-same}
 use borrow.Author.Tests.{eq-eqb, eqb-false, eqb-true, ne-eqb}
+use Rattle.model.specs.Masks.{bit}
 use Rattle.model.specs.States.{Indexed, ofSheet}
+use Rattle.model.specs.Tests.{count, sum}
+use Rattle.model.proofs.Tallies.{count-more, count-ones, count-same}
 use Rattle.model.proofs.Tests.{either}
-use Rattle.words.specs.Sheets.{swapped}
+use Rattle.words.specs.Sheets.{Sized, rowsTo, swapped}
 
 module _ (xs : List ℕ) (s w v : ℕ) (l : w < 8) where
   pub of-set-same : 8 * s + w < length xs → ofSheet (set xs (8 * s + w) v) s w ≡ v
@@ -204,3 +209,38 @@ module _ {index word : ℕ → ℕ} {n : ℕ} (h : Indexed index n word) (p : �
               λ c. h .limit i k .0 (omega arith),
               λ c. let d = h .limit i k .1 c in lt-of-le-ne (omega arith) b,
             )
+
+-- ---- the rows, numbered by the position of their word in the index
+-- one word more, as the code counts
+pub rows-next : (W X : List ℕ) (s p : ℕ) {w rows : ℕ} → w ≡ ofSheet X s p → rows ≡ rowsTo W X s p
+    → rows + ones (ofSheet W s w) ≡ rowsTo W X s (p + 1)
+unfolding rowsTo
+rows-next W X s p ew i = rw (add-one p, ew, i)
+
+module _ {W X N : List ℕ} (z : Sized W X N) (s : ℕ) where
+  -- number q is bit q % 64 of the word at position q / 64
+  abbrev pub passes : ℕ → Bool
+  passes q = bit (q % 64) (ofSheet W s (ofSheet X s (q / 64)))
+
+  pub rows-count : (n : ℕ) → count (64 * n) passes ≡ rowsTo W X s n
+  unfolding rowsTo count sum
+  rows-count zero = refl
+  rows-count (suc n) =
+      let e : 64 * suc n ≡ 64 * n + 64 = omega arith in
+      rw e
+      (count-more (64 * n) 64 passes
+      ∙ ap₂ _+_ (rows-count n) (count-same 64 (λ k. passes (64 * n + k)) (λ k. bit k word) same ∙ count-ones 64 word (z .bits (8 * s + ofSheet X s n))))
+    where
+      word : ℕ
+      word = ofSheet W s (ofSheet X s n)
+
+      same : (k : ℕ) → k < 64 → passes (64 * n + k) ≡ bit k word
+      same k l =
+          let p : (64 * n + k) % 64 ≡ k = omega arith in
+          let q : (64 * n + k) / 64 ≡ n = omega arith in
+          rw (p, q)
+
+  pub rows-most : (n : ℕ) → rowsTo W X s n ≤ 64 * n
+  unfolding rowsTo
+  rows-most zero = omega arith
+  rows-most (suc n) = omega (arith, rows-most n, ones-le 64 (ofSheet W s (ofSheet X s n)) (z .bits (8 * s + ofSheet X s n)))

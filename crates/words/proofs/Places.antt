@@ -1,6 +1,6 @@
 -- The sheets of an accepted book: where their rows stand, and which of them are valid. Assumes nothing.
 use mathlib.Core.Path.{_∙_, _≡_, ap, refl, sym}
-use mathlib.Core.Bool.{Bool, _&&_, true}
+use mathlib.Core.Bool.{Bool, _&&_, false, true}
 use mathlib.Core.Logic.{_⊎_, inl, inr, ⊎-elim}
 use mathlib.Core.List.{List, List·Memᴰ, []}
 use Prim.Native.Nat.{_*_, _+_, _/_, _<_, _≤_, suc, zero, ℕ}
@@ -8,14 +8,14 @@ use native.Mathlib.Omega.{arith}
 use lib.Dec.{ltb}
 use lib.ListN.{getD, length}
 use borrow.Author.Tests.{le-ltb, lt-ltb, ltb-true}
-use Rattle.model.specs.Books.{Sheet, WellFormed, inDomain, isAny, sheetAt}
+use Rattle.model.specs.Books.{Sheet, WellFormed, inDomain, isAny, noSheet, sheetAt}
 use Rattle.model.specs.States.{valid, validRow}
 use Rattle.model.specs.Tests.{allBelow, tab}
 use Rattle.model.proofs.Rows.{in-list}
 use Rattle.model.proofs.Tests.{allBelow-e, allBelow-i, allBelow-same, and-i, and-l, and-r, below, getD-tab, length-tab}
 use Rattle.book.specs.Decoding.{bookOf, rowOf, sheetOf}
 use Rattle.fields.specs.Bytes.{byteAt}
-use Rattle.heads.specs.Heads.{columnOf, rowsOf, sheetsOf, valuesOf, widthOf}
+use Rattle.heads.specs.Heads.{columnOf, forbidsOf, rowsOf, sheetsOf, valuesOf, widthOf}
 use Rattle.book.specs.Rows.{blocksNeeded, blocksOf, rowPlace}
 use Rattle.book.proofs.Decoding.{RightBook, accepted-right, filler-zero, right-formed, rises, row-inside, value-cell}
 use Rattle.book.proofs.Rows.{firstBlock-later}
@@ -42,6 +42,9 @@ module _ {b : List ℕ} {begin s : ℕ} (a : AtSheet b begin s) where
 
   pub rows-few : rowsOf b s ≤ 508
   rows-few = rows-most b (right .head) s (a .one)
+
+  pub values-few : (j : ℕ) → j < widthOf b s → valuesOf b (columnOf b s j) ≤ 32
+  values-few j l = values-range b (right .head) (columnOf b s j) (column-inside b (right .head) s (a .one) j l) .1
 
   pub column-below : (j : ℕ) → j < widthOf b s → columnOf b s j < 16
   column-below j l = omega (arith, column-inside b (right .head) s (a .one) j l, columns-range b (right .head) .1)
@@ -70,7 +73,7 @@ module _ {b : List ℕ} {begin s : ℕ} (a : AtSheet b begin s) where
       omega (arith, a .begins, right-length b (right .length-right), right .blocks, firstBlock-later b s (sheetsOf b) (a .one))
 
   pub cell-value : (r j : ℕ) → r < rowsOf b s → j < widthOf b s
-      → (isAny (cellAt b begin r j) ≡ true) ⊎ (cellAt b begin r j < valuesOf b (columnOf b s j))
+      → ((forbidsOf b s ≡ false) × (isAny (cellAt b begin r j) ≡ true)) ⊎ (cellAt b begin r j < valuesOf b (columnOf b s j))
   cell-value r j l p = rw (← same-place r j) (value-cell b right s (a .one) r j l p)
 
   pub cell-is : (r j : ℕ) → r < rowsOf b s → j < 4 → IsCell (cellAt b begin r j)
@@ -78,7 +81,7 @@ module _ {b : List ℕ} {begin s : ℕ} (a : AtSheet b begin s) where
     where
       go : (j < widthOf b s) ⊎ (widthOf b s ≤ j) → IsCell (cellAt b begin r j)
       go (inl q) =
-          ⊎-elim inl
+          ⊎-elim (λ q. inl (q .1))
           (λ v. inr (omega (arith, values-range b (right .head) (columnOf b s j) (column-inside b (right .head) s (a .one) j q) .1)))
           (cell-value r j l q)
       go (inr q) = inr (omega (arith, ap (byteAt b) (same-place r j), filler-zero b right s (a .one) r j l q p))
@@ -99,7 +102,11 @@ module _ {b : List ℕ} {begin s : ℕ} (a : AtSheet b begin s) where
 
   pub sheet-at : sheetAt (bookOf b) s ≡ sheetOf b s
   unfolding bookOf
-  sheet-at = getD-tab (record { columns = []; rows = [] }) (sheetsOf b) (sheetOf b) s (a .one)
+  sheet-at = getD-tab noSheet (sheetsOf b) (sheetOf b) s (a .one)
+
+  pub sheet-forbids : sheetAt (bookOf b) s .forbids ≡ forbidsOf b s
+  unfolding sheetOf
+  sheet-forbids = ap (λ (x : Sheet). x .forbids) sheet-at
 
   pub valid-iff : (D : List ℕ) (r : ℕ) → validRow D (sheetAt (bookOf b) s) r
       ≡ (ltb r (rowsOf b s) && allBelow (widthOf b s) (λ j. inDomain (valueAt b s r j) (getD D (columnOf b s j) 0)))
@@ -156,7 +163,7 @@ module _ {b : List ℕ} {begin s : ℕ} (a : AtSheet b begin s) where
 
   pub sheet-in : List·Memᴰ (sheetAt (bookOf b) s) (bookOf b .sheets)
   unfolding bookOf
-  sheet-in = in-list (record { columns = []; rows = [] }) (tab (sheetsOf b) (sheetOf b)) s (omega (arith, a .one, length-tab (sheetsOf b) (sheetOf b)))
+  sheet-in = in-list noSheet (tab (sheetsOf b) (sheetOf b)) s (omega (arith, a .one, length-tab (sheetsOf b) (sheetOf b)))
 
   pub formed : WellFormed (bookOf b)
   formed = right-formed b right

@@ -1,3 +1,2 @@
--- Sheets: the words of a sheet, and what each pass makes of them. Looks: a whole look at a sheet, which is all that the engine sees of it.
+-- Sheets: the words of a sheet, and what each pass makes of them.
 pub mod Sheets
-pub mod Looks

@@ -1,17 +1,17 @@
--- One sheet and its rows: which of them are set in the words, and what a pass makes of them. All this is inside of this crate; what the engine sees of a
--- sheet is in Looks.
+-- One sheet and its rows: which of them are set in the words, and what a pass makes of them. What the engine sees of a sheet is in crate looks.
 --
 -- Names: W, X, N are the arrays of words, index positions and counts of words that are not zero, D the domains; a second set has a ′.
 use mathlib.Core.Path.{_≡_}
 use mathlib.Core.Bool.{Bool, _&&_, _||_, false, not, true}
 use mathlib.Core.Logic.{_⊎_}
 use mathlib.Core.List.{List}
-use Prim.Native.Nat.{_%_, _*_, _+_, _/_, _<_, _^_, _≤_, ℕ}
+use Prim.Native.Nat.{_%_, _*_, _+_, _/_, _<_, _^_, _≤_, suc, zero, ℕ}
+use lib.Count.{ones}
 use lib.ListN.{getD, length, set}
-use Rattle.model.specs.Books.{inDomain, isAny, matches, sheetAt}
+use Rattle.model.specs.Books.{inDomain, isAny, matches, sheetAt, supportedIn}
 use Rattle.model.specs.Masks.{bit}
 use Rattle.model.specs.States.{Indexed, ofSheet, validRow}
-use Rattle.model.specs.Stores.{IsStore, Within, has, values}
+use Rattle.model.specs.Stores.{IsStore, has}
 use Rattle.model.specs.Tests.{allBelow}
 use Rattle.book.specs.Decoding.{bookOf}
 use Rattle.heads.specs.Heads.{columnOf, rowsOf, sheetsOf, widthOf}
@@ -152,33 +152,16 @@ pub record Wanted (b : List ℕ) (s : ℕ) (D : List ℕ) (n : ℕ) (x : List �
   pub at : (j : ℕ) → j < n → getD x j 0 ≡ getD D (columnOf b s j) 0
   pub rest : (j : ℕ) → n ≤ j → j < 4 → getD x j 0 ≡ 1
 
--- domains lose values; `lost` are the columns that lose one
-pub record Loses (D D′ : List ℕ) (lost : ℕ) : Type 0 where
-  pub store : IsStore 16 D′
-  pub within : Within D′ D
-  pub unchanged : (c : ℕ) → bit c lost ≡ false → getD D′ c 0 ≡ getD D c 0
-  pub fewer : values 16 D′ ≤ values 16 D
-  pub falls : 0 < lost → values 16 D′ < values 16 D
+-- the rows of sheet s that are set are those that are valid in D
+pub record RowsAre (b : List ℕ) (s : ℕ) (D W : List ℕ) : Type 0 where
+  pub at : (r : ℕ) → r < 512 → isSet W s r ≡ validRow D (sheetAt (bookOf b) s) r
 
--- the column of place j, if it is one of the width, keeps its values that are in y, and no other column changes
-pub record StruckPlace (b : List ℕ) (s j y : ℕ) (D D′ : List ℕ) (lost : ℕ) : Type 0 where
-  pub loses : Loses D D′ lost
-  pub struck : (c v : ℕ) → has D c v ≡ true → (has D′ c v ≡ true) ⊎ ((j < widthOf b s) × (columnOf b s j ≡ c) × (bit v y ≡ false))
-  pub left : (v : ℕ) → j < widthOf b s → has D′ (columnOf b s j) v ≡ true → bit v y ≡ true
-
--- the columns of the places below n keep their values that are in the sets y, and no other column changes
-pub record StruckTo (b : List ℕ) (s n : ℕ) (y D D′ : List ℕ) (lost : ℕ) : Type 0 where
-  pub loses : Loses D D′ lost
-  pub struck : (c v : ℕ) → has D c v ≡ true
-      → (has D′ c v ≡ true) ⊎ ((j : ℕ) × (j < n) × (j < widthOf b s) × (columnOf b s j ≡ c) × (bit v (getD y j 0) ≡ false))
-  pub left : (j v : ℕ) → j < n → j < widthOf b s → has D′ (columnOf b s j) v ≡ true → bit v (getD y j 0) ≡ true
-
--- of each column of the sheet the values without support are struck, and no other
-pub record Struck (b : List ℕ) (s : ℕ) (W D D′ : List ℕ) (lost : ℕ) : Type 0 where
-  pub loses : Loses D D′ lost
-  pub struck : (c v : ℕ) → has D c v ≡ true
-      → (has D′ c v ≡ true) ⊎ ((j : ℕ) × (j < widthOf b s) × (columnOf b s j ≡ c) × (SetSupport b s W j v → ⊥))
-  pub left : (j v : ℕ) → j < widthOf b s → has D′ (columnOf b s j) v ≡ true → SetSupport b s W j v
+-- y are the values with support, in the model's words: whatever the domains D are, so long as x are those of the sheet's columns and W the rows that are
+-- valid in them. This is all that is known of how a sheet allows; two functions ensure it, `carried` by the rows that carry a value, and `unforbidden` (crate
+-- looks) by counting the rows that forbid it
+pub record FindsSupported (b : List ℕ) (s : ℕ) (W x y : List ℕ) : Type 0 where
+  pub at : (D : List ℕ) → IsStore 16 D → Wanted b s D (widthOf b s) x → RowsAre b s D W → (j v : ℕ) → j < widthOf b s → has D (columnOf b s j) v ≡ true
+      → bit v (getD y j 0) ≡ supportedIn D (columnOf b s j) v (sheetAt (bookOf b) s)
 
 -- ---- the rows while a sheet is looked at
 -- every row that is valid in D is set; a row that is set is a row of the sheet, with cells in the domains of all columns but those in
@@ -189,6 +172,8 @@ pub record RowsKnown (b : List ℕ) (s changed : ℕ) (D W X N : List ℕ) : Typ
   pub seen : (r j : ℕ) → r < 512 → isSet W s r ≡ true → j < widthOf b s → bit (columnOf b s j) changed ≡ false
       → inDomain (valueAt b s r j) (getD D (columnOf b s j) 0) ≡ true
 
--- each value of each column of the sheet has support
-pub record AllSupported (b : List ℕ) (s : ℕ) (D W : List ℕ) : Type 0 where
-  pub at : (j v : ℕ) → j < widthOf b s → has D (columnOf b s j) v ≡ true → SetSupport b s W j v
+-- ---- counted rows
+-- how many rows of sheet s are set in the words at the positions below n of its index
+unfoldable pub rowsTo : List ℕ → List ℕ → ℕ → ℕ → ℕ
+rowsTo W X s zero = 0
+rowsTo W X s (suc n) = rowsTo W X s n + ones (ofSheet W s (ofSheet X s n))

@@ -1,4 +1,4 @@
-// Pass 2, first half: the values that have support in a sheet: a row that is set carries them.
+// Pass 2, first half: the values that have support in a sheet that allows its rows: a row that is set carries them.
 //
 // The rows are walked once for their own values. A place at which some are still missing is walked again for a 255, and only where the sheet has one
 // there in some row: `shorts` has bit 8 j + 7 set for place j, laid out once a book.
@@ -8,9 +8,11 @@ ghost use mathlib.Core.Path.{_≡_};
 ghost use mathlib.Core.Bool.{false, true};
 ghost use Prim.Native.Nat.{_+_, _*_, _<_};
 ghost use lib.ListN.{replicate};
+ghost use Rattle.model.specs.Stores.{IsStore};
 ghost use Rattle.model.specs.Tests.{Finds};
+ghost use Rattle.heads.specs.Heads.{forbidsOf, widthOf};
 ghost use Rattle.cells.specs.Cells.{Covered, SmallSets};
-ghost use Rattle.words.specs.Sheets.{AtSheet, NothingMissed, PlainSeen, SeenOr, SheetWords, ShortPlaces, Supported, Widened, anyAt};
+ghost use Rattle.words.specs.Sheets.{AtSheet, FindsSupported, IsSheet, NothingMissed, PlainSeen, SeenOr, SheetWords, ShortPlaces, Supported, Wanted, Widened, anyAt};
 
 // Whether every value of x is in y.
 fn covered(x: &[u32; 4], y: &[u32; 4]) -> bool
@@ -128,8 +130,8 @@ fn widen_places(
     }
 }
 
-// The values with support at each place of sheet s; of these, once all of x have been seen, the ones seen.
-pub fn supported(
+// The values with support at each place of sheet s, which allows its rows: those that a row carries; of these, once all of x have been seen, the ones seen.
+pub fn carried(
     book: &[u8],
     begin: usize,
     s: usize,
@@ -140,8 +142,8 @@ pub fn supported(
     index: &[u8; 64],
     nonzero: &[u8; 8],
 )
-    requires { ⌜ AtSheet (now book) begin s × SheetWords (now book) s (now valid) (now index) (now nonzero) × ShortPlaces (now book) s shorts × (now seen ≡ replicate 4 0) × SmallSets (now x) ⌝ }
-    ensures { λ r. ⌜ Supported (now (book .entry)) s (now (valid .entry)) (now (x .entry)) (now (seen .exit)) ⌝ }
+    requires { ⌜ AtSheet (now book) begin s × SheetWords (now book) s (now valid) (now index) (now nonzero) × ShortPlaces (now book) s shorts × (forbidsOf (now book) s ≡ false) × (now seen ≡ replicate 4 0) × SmallSets (now x) ⌝ }
+    ensures { λ r. ⌜ FindsSupported (now (book .entry)) s (now (valid .entry)) (now (x .entry)) (now (seen .exit)) ⌝ }
 {
     if gather(book, begin, s, x, seen, valid, index, nonzero) {
         return;
@@ -150,4 +152,18 @@ pub fn supported(
         return;
     }
     widen_places(book, begin, s, shorts, x, seen, valid, index, nonzero);
+}
+
+// The domain of each place of sheet s; of a place that is not used, 0 alone, which is what every row has there.
+pub fn wanted(book: &[u8], s: usize, dom: &[u32; 16], x: &mut [u32; 4])
+    requires { ⌜ IsSheet (now book) s × IsStore 16 (now dom) × (now x ≡ replicate 4 1) ⌝ }
+    ensures { λ r. ⌜ Wanted (now (book .entry)) s (now (dom .entry)) (widthOf (now (book .entry)) s) (now (x .exit)) ⌝ }
+{
+    let k = heads::head::width(book, s);
+    let mut j: usize = 0;
+    while j < k {
+        let c = heads::head::column(book, s, j);
+        x[j] = dom[c];
+        j += 1;
+    }
 }

@@ -6,7 +6,7 @@ ghost use mathlib.Core.Path.{_≡_};
 ghost use Prim.Native.Nat.{_+_, _-_, _*_, _<_, _≤_};
 ghost use lib.ListN.{getD, set};
 ghost use Rattle.model.specs.States.{ofSheet};
-ghost use Rattle.words.specs.Sheets.{swapped};
+ghost use Rattle.words.specs.Sheets.{IndexOf, Sized, rowsTo, swapped};
 
 // How many words of sheet s are not zero.
 pub fn nonzero_words(nonzero: &[u8; 8], s: usize) -> usize
@@ -37,4 +37,19 @@ pub fn drop_word(index: &mut [u8; 64], nonzero: &mut [u8; 8], s: usize, p: usize
     index[at] = y;
     index[last] = x;
     nonzero[s] = n;
+}
+
+// How many rows of sheet s are set in the n words of its index that are not zero.
+pub fn set_rows(s: usize, n: usize, valid: &[u64; 64], index: &[u8; 64], nonzero: &[u8; 8]) -> u32
+    requires { ⌜ (s < 8) × Sized (now valid) (now index) (now nonzero) × IndexOf s (now valid) (now index) (now nonzero) × (n ≤ getD (now nonzero) s 0) ⌝ }
+    ensures { λ r. ⌜ r ≡ rowsTo (now (valid .entry)) (now (index .entry)) s n ⌝ }
+{
+    let mut rows: u32 = 0;
+    let mut p: usize = 0;
+    while p < n {
+        let w = word_number(index, s, p);
+        rows = rows + u64::count_ones(valid[8 * s + w]);
+        p += 1;
+    }
+    rows
 }

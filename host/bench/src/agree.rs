@@ -5,13 +5,16 @@
 //! books and plain orders; of a book that isn't plain, its length and its checks. They know no limit of tries
 //! and may search without end, so a finish that the library stops is left out; but they count tries, so those
 //! of the others are compared.
+//!
+//! Forbidden sheets are known to Gecode. Where a book with such sheets can be written in plain ones, the library must
+//! say the same of both, byte for byte, and what the opponents show of the plain one is compared too.
 
 use crate::gecode::{distances, Tables};
 use crate::measurement::Kind;
 use crate::opponents::{self, finish, Finish, Packed, Shown, Words, NOTHING};
 use crate::subjects::Subject;
 use crate::{timed, Effort};
-use conformance::{Case, Order, Run};
+use conformance::{Case, Order, Run, ANY};
 use fitting::Outcome;
 use std::num::NonZeroU16;
 
@@ -25,20 +28,37 @@ pub fn on_seeds(effort: &Effort) {
     }
     for seed in 0..effort.lists {
         let Run { book, orders, .. } = Run::new(seed);
-        if on_book(&book) {
-            let plain = orders.as_chunks().0.iter().filter(|order| is_plain(order));
-            let orders = ending(&book, plain.take(256).copied().collect());
-            let gecode = (seed < effort.gecode).then(|| Tables::of(&book)).flatten();
+        let plain = on_book(&book);
+        if !plain && !is_for_gecode(&book) {
+            continue;
+        }
+        let orders = orders.as_chunks().0.iter().filter(|order| is_plain(order));
+        let orders = ending(&book, orders.take(256).copied().collect());
+        let gecode = (seed < effort.gecode).then(|| Tables::of(&book)).flatten();
+        if plain {
             on_tries(&book);
             on_list(&book, &orders, gecode.as_ref());
+        } else {
+            on_gecode(&book, &orders, gecode.as_ref());
         }
     }
+}
+
+/// Whether this is a book with forbidden sheets, accepted, that Gecode can be given as it is: without short rows.
+fn is_for_gecode(book: &[u8]) -> bool {
+    fitting::check(book).is_ok_and(|book| {
+        let mut cells = book.sheets().flat_map(|sheet| sheet.rows().flatten());
+        book.sheets().any(|sheet| sheet.forbids()) && cells.all(|cell| *cell != ANY)
+    })
 }
 
 /// Panics where they differ on something that is timed on this subject.
 pub fn on_subject(subject: &Subject, gecode: Option<&Tables>) {
     let Subject { name, book, .. } = subject;
     let plain = on_book(book);
+    if subject.forbids {
+        return on_forbidding(subject, gecode);
+    }
     if subject.plain.is_some() {
         return on_short(subject);
     }
@@ -53,15 +73,48 @@ pub fn on_subject(subject: &Subject, gecode: Option<&Tables>) {
     for kind in Kind::ALL {
         for list in subject.lists(kind) {
             let shown = on_list(book, &list, gecode);
-            let refused = shown.iter().filter(|it| it.refusal != 0).count();
-            assert_eq!((shown.len(), refused), (list.len() + 1, 0), "{name}");
-            let last = shown[list.len()];
-            match kind {
-                // A dead session would be no measure of a narrow.
-                Kind::Narrow => assert_ne!(last.status, 0, "{name}"),
-                Kind::ToAndFro => assert_eq!(last, shown[0], "{name}"),
-                Kind::Finish => assert_eq!(last.domains, finished.domains, "{name}"),
-                _ => {}
+            as_it_is_timed(name, kind, &list, &shown);
+            if kind == Kind::Finish {
+                assert_eq!(shown[1].domains, finished.domains, "{name}");
+            }
+        }
+    }
+}
+
+/// Nothing is refused, a narrow leaves the session alive, as a dead one would be no measure of it, and a back leads to
+/// the opening.
+fn as_it_is_timed(name: &str, kind: Kind, list: &[Order], shown: &[Shown]) {
+    let refused = shown.iter().filter(|it| it.refusal != 0).count();
+    assert_eq!((shown.len(), refused), (list.len() + 1, 0), "{name}");
+    let last = shown[list.len()];
+    match kind {
+        Kind::Narrow => assert_ne!(last.status, 0, "{name}"),
+        Kind::ToAndFro => assert_eq!(last, shown[0], "{name}"),
+        _ => {}
+    }
+}
+
+/// The library and Gecode show the same of a book with forbidden sheets, and the library the same as of the one in
+/// plain sheets. Of that one the opponents do, where it has no short rows.
+fn on_forbidding(subject: &Subject, gecode: Option<&Tables>) {
+    let Subject { name, book, .. } = subject;
+    let (outcome, tries) = timed::finish(book, NonZeroU16::MAX);
+    assert_ne!(outcome, Outcome::Stopped, "{name}");
+    let plain = subject.plain.as_deref();
+    if let Some(plain) = plain.filter(|plain| on_book(plain)) {
+        let finished = on_tries(plain).map(|it| it.tries);
+        assert_eq!(finished, Some(tries.into()), "{name}");
+    }
+    for kind in Kind::ALL {
+        for list in subject.lists(kind) {
+            let shown = on_gecode(book, &list, gecode);
+            as_it_is_timed(name, kind, &list, &shown);
+            if let Some(plain) = plain {
+                let [one, other] = [book, plain].map(|book| answers(book, list.as_flattened()));
+                assert!(one == other, "{name}");
+                if on_book(plain) {
+                    assert_eq!(on_list(plain, &list, None), shown, "{name}");
+                }
             }
         }
     }
@@ -120,13 +173,18 @@ fn is_plain(order: &Order) -> bool {
     )
 }
 
-/// What all show; they must show the same. Gecode gets only the accepted orders.
+/// What all show; they must show the same.
 fn on_list(book: &[u8], orders: &[Order], gecode: Option<&Tables>) -> Vec<Shown> {
     let library = by_library(book, orders.as_flattened());
     for opponent in by_opponents(book, orders.as_flattened()) {
         assert!(opponent == library, "{opponent:?} and {library:?}");
     }
-    let (_, shown) = library;
+    on_gecode(book, orders, gecode)
+}
+
+/// What the library shows; Gecode must show the same. It gets only the accepted orders.
+fn on_gecode(book: &[u8], orders: &[Order], gecode: Option<&Tables>) -> Vec<Shown> {
+    let (_, shown) = by_library(book, orders.as_flattened());
     if let Some(gecode) = gecode {
         let answered = orders.iter().zip(&shown[1..]);
         let (accepted, domains): (Vec<Order>, Vec<_>) = answered
@@ -145,9 +203,15 @@ fn on_list(book: &[u8], orders: &[Order], gecode: Option<&Tables>) -> Vec<Shown>
 /// The number of a run, and what it shows.
 type Ran = (u64, Vec<Shown>);
 
-fn by_library(book: &[u8], orders: &[u8]) -> Ran {
+/// The number of a run of the library, and all that it writes.
+fn answers(book: &[u8], orders: &[u8]) -> (u64, Vec<u8>) {
     let mut answers = vec![0; fitting::space_for(orders.len() / 8)];
     let number = fitting::run_number(book, orders, &mut answers);
+    (number, answers)
+}
+
+fn by_library(book: &[u8], orders: &[u8]) -> Ran {
+    let (number, answers) = answers(book, orders);
     let shown = |answer: &[u8; 72]| Shown {
         refusal: answer[0],
         status: answer[1],
@@ -167,7 +231,7 @@ fn by_opponents(book: &[u8], orders: &[u8]) -> [Ran; 2] {
 #[cfg(test)]
 mod tests {
     use super::*;
-    use crate::subjects::subjects;
+    use crate::subjects::{forbidding, subjects};
 
     #[test]
     fn all_agree_on_seeds() {
@@ -185,5 +249,18 @@ mod tests {
         let refused: Vec<u64> = numbers.filter(|number| number >> 16 != 0).collect();
         // The places of document 01: block 32.
         assert_eq!(refused, [5 << 16 | 32, 2 << 16 | 32]);
+    }
+
+    #[test]
+    fn all_agree_on_forbidden_sheets() {
+        let subjects = forbidding();
+        for subject in &subjects {
+            on_subject(subject, subject.tables().as_ref());
+        }
+        // Only what is loose has no room in plain sheets.
+        let loose = subjects.iter().filter(|it| it.plain.is_none());
+        let names: Vec<&str> = loose.map(|it| &*it.name).collect();
+        let [few, full] = ["few", "full"].map(|it| [2, 4].map(|k| format!("{it}, width {k}")));
+        assert_eq!(names, [few, full].concat());
     }
 }

@@ -1,4 +1,5 @@
-// A book's sheets as Gecode's extensional constraints (Compact-Table), and the orders over them.
+// A book's sheets as Gecode's extensional constraints (Compact-Table; of a forbidden sheet a negative one), and the
+// orders over them.
 // The book has been accepted. So have the orders: only a place that isn't there is looked at.
 
 #include <gecode/int.hh>
@@ -17,6 +18,7 @@ namespace {
 struct Sheet {
     std::vector<int> columns;
     TupleSet rows;
+    bool forbids;
 };
 
 // What is built of a book once. The opening is a Session, settled; null for a dead one.
@@ -26,17 +28,31 @@ struct Tables {
     std::unique_ptr<Space> opening;
 };
 
-Sheet sheet_of(const uint8_t *entry, const uint8_t *blocks) {
-    int width = entry[0];
+// A row's tuples: a 255 is written out, as Gecode knows none.
+void add(TupleSet &rows, const Tables &tables, const std::vector<int> &columns, const uint8_t *row, IntArgs &tuple,
+         int from) {
+    for (int i = from; i < tuple.size(); i++) {
+        tuple[i] = row[i];
+        if (row[i] == 255) {
+            for (int v = 0; v < tables.values[columns[i]]; v++) {
+                tuple[i] = v;
+                add(rows, tables, columns, row, tuple, i + 1);
+            }
+            return;
+        }
+    }
+    rows.add(tuple);
+}
+
+Sheet sheet_of(const Tables &tables, const uint8_t *entry, const uint8_t *blocks) {
+    // 129 to 132 for a forbidden sheet of width 1 to 4.
+    int width = entry[0] % 128;
     int count = entry[6] + 256 * entry[7];
-    Sheet sheet{std::vector<int>(entry + 1, entry + 1 + width), TupleSet(width)};
+    Sheet sheet{std::vector<int>(entry + 1, entry + 1 + width), TupleSet(width), entry[0] > 128};
     for (int r = 0; r < count; r++) {
         const uint8_t *row = blocks + 512 * (r / 127) + 4 * (r % 127);
         IntArgs tuple(width);
-        for (int i = 0; i < width; i++) {
-            tuple[i] = row[i];
-        }
-        sheet.rows.add(tuple);
+        add(sheet.rows, tables, sheet.columns, row, tuple, 0);
     }
     sheet.rows.finalize();
     return sheet;
@@ -55,7 +71,7 @@ public:
             for (int column : sheet.columns) {
                 places << columns[column];
             }
-            extensional(*this, places, sheet.rows);
+            extensional(*this, places, sheet.rows, !sheet.forbids);
         }
         branch(*this, columns, INT_VAR_NONE(), INT_VAL_MIN());
     }
@@ -136,7 +152,7 @@ void *gecode_tables(const uint8_t *book) {
     const uint8_t *blocks = book + 512;
     for (int s = 0; s < book[5]; s++) {
         const uint8_t *entry = book + 24 + 8 * s;
-        tables->sheets.push_back(sheet_of(entry, blocks));
+        tables->sheets.push_back(sheet_of(*tables, entry, blocks));
         blocks += 512 * ((entry[6] + 256 * entry[7] + 126) / 127);
     }
     return tables;

@@ -45,6 +45,7 @@ pub fn parity(corners: u8, edges: &[[u8; 2]], values: u8) -> Book {
         let fits = |row: &Vec<u8>| row.iter().sum::<u8>() % 2 == odd;
         let at_corner = (0..).zip(edges).filter(|(_, edge)| edge.contains(&corner));
         Sheet {
+            forbidden: false,
             columns: at_corner.map(|(column, _)| column).collect(),
             rows: rows.clone().filter(fits).collect(),
         }
@@ -69,9 +70,10 @@ fn random(values: u8, rows: usize, found: bool) -> (String, Book) {
 }
 
 /// Every column stands in two sheets, so that none is tried over and over without effect.
-fn seeded(random: &mut Random, values: u8, rows: usize) -> Book {
+pub fn seeded(random: &mut Random, values: u8, rows: usize) -> Book {
     let row = |random: &mut Random| (0..4).map(|_| random.below(values.into()) as u8).collect();
     let sheets = columns(random).map(|columns| Sheet {
+        forbidden: false,
         columns: columns.to_vec(),
         rows: (0..rows).map(|_| row(random)).collect(),
     });

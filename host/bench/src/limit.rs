@@ -54,6 +54,7 @@ fn behind_free(free: u8, counts: &[u8], mut sheets: Vec<Sheet>) -> Book {
 /// K7 of document 01: three columns of two values, of which no two may be alike.
 fn three_pairs() -> Book {
     let sheet = |columns: [u8; 2]| Sheet {
+        forbidden: false,
         columns: columns.to_vec(),
         rows: vec![vec![0, 1], vec![1, 0]],
     };
@@ -70,6 +71,7 @@ fn parity_of_pairs() -> Book {
         let mut columns = columns.to_vec();
         columns.sort();
         Sheet {
+            forbidden: false,
             columns,
             rows: pairs.filter(|row| (row[0] + row[1]) % 2 == odd).collect(),
         }
@@ -82,10 +84,12 @@ fn parity_of_pairs() -> Book {
 fn one_by_one(rows: usize, others: Option<bool>) -> Vec<Sheet> {
     let columns = |columns: [u8; 4]| columns.to_vec();
     let with_t = Sheet {
+        forbidden: false,
         columns: columns([0, 1, 2, 3]),
         rows: starting(rows),
     };
     let without_t = |rows| Sheet {
+        forbidden: false,
         columns: columns([1, 2, 3, 4]),
         rows,
     };

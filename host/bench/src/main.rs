@@ -3,17 +3,19 @@
 //!
 //! `cargo run --release -p bench` prints a table of ratios in Markdown, and writes it into the
 //! documents with a picture of it. With `-- --quick` it makes few rounds and writes nothing; with
-//! `-- --out FOLDER` it writes there. Both sides are code for plain x86-64, and all are called in turn,
-//! round by round.
+//! `-- --out FOLDER` it writes there; with `-- --forbidden` it takes the books with forbidden sheets alone, in a
+//! minute or two, and writes nothing. Both sides are code for plain x86-64, and all are called in turn, round by
+//! round.
 //!
-//! - What is timed: `subjects`, with the books of `hard` and of `worst`; and those of `limit`, which the limit of
-//!   a finish stops.
+//! - What is timed: `subjects`, with the books of `hard` and of `worst`; those of `forbidden`, which have a table of
+//!   their own; and those of `limit`, which the limit of a finish stops.
 //! - Who is timed: the library, `opponents`, frozen at document 01, and `gecode`. `agree` sees first
 //!   that all show the same.
 //! - The timing: `timed`, which says who does what, and `race`.
 //! - What is shown: `measurement` is the one list of figures; `page`, its words in `page.md`; `picture`.
 
 mod agree;
+mod forbidden;
 mod gecode;
 mod hard;
 mod limit;
@@ -27,17 +29,21 @@ mod timed;
 mod worst;
 
 use measurement::{Kind, Measurement, Tries};
-use page::Page;
+use page::{Forbidden, Page};
 use std::num::NonZeroU16;
 use std::path::{Path, PathBuf};
 use std::process::ExitCode;
 use std::time::Duration;
 use subjects::Subject;
 
-const USAGE: &str = "options: --quick (few rounds, no files), --out FOLDER (for the files)";
+const USAGE: &str = "options: --quick (few rounds, no files), --out FOLDER (for the files), \
+                     --forbidden (only the books with forbidden sheets, no files)";
 
 /// The repository's documents.
 const DOCUMENTS: &str = concat!(env!("CARGO_MANIFEST_DIR"), "/../../docs");
+
+/// How long each row may take where only the books with forbidden sheets are asked for.
+const PATIENCE: Duration = Duration::from_millis(500);
 
 /// What a quick run lets a finish try.
 const FEW_TRIES: NonZeroU16 = NonZeroU16::new(500).unwrap();
@@ -77,20 +83,32 @@ impl Effort {
 }
 
 fn main() -> ExitCode {
-    let Some((quick, folder)) = options(std::env::args().skip(1)) else {
+    let Some(options) = options(std::env::args().skip(1)) else {
         eprintln!("{USAGE}");
         return ExitCode::from(2);
     };
-    let effort = &Effort::new(quick);
+    let mut effort = Effort::new(options.quick);
+    if options.forbidden {
+        effort.patience = effort.patience.min(PATIENCE);
+        let forbidden = forbidden(&effort);
+        let machine = page::machine(&forbidden.measurements);
+        println!("{machine}\n\n{}", forbidden.table());
+        return ExitCode::SUCCESS;
+    }
+    let effort = &effort;
     let subjects = subjects::subjects();
+    eprintln!("compared: what all show of seeded inputs");
+    agree::on_seeds(effort);
     let page = Page {
         measurements: &measured(&subjects, effort),
         stopped: &stopped(effort),
         subjects: &subjects,
+        forbidden: &forbidden(effort),
         effort,
     };
-    println!("{}\n\n{}\n{}", page.machine(), page.table(), page.tries());
-    if let Some(folder) = folder {
+    let tables = [page.table(), page.forbidden.table(), page.tries()];
+    println!("{}\n\n{}", page.machine(), tables.join("\n"));
+    if let Some(folder) = options.folder {
         put(&folder.join("BENCH.md"), &page.text());
         let picture = picture::svg(page.measurements, &page.machine());
         put(&folder.join("bench.svg"), &picture);
@@ -98,25 +116,52 @@ fn main() -> ExitCode {
     ExitCode::SUCCESS
 }
 
-/// Whether to make few rounds, and where to write. A full run writes into the documents unless another
-/// folder is named; a quick one only if one is. None for anything else.
-fn options(mut arguments: impl Iterator<Item = String>) -> Option<(bool, Option<PathBuf>)> {
-    let (mut quick, mut folder) = (false, None);
+/// What is asked for.
+#[derive(PartialEq, Debug)]
+struct Options {
+    /// Few rounds.
+    quick: bool,
+    /// Only the books with forbidden sheets.
+    forbidden: bool,
+    /// Where to write.
+    folder: Option<PathBuf>,
+}
+
+/// A full run writes into the documents unless another folder is named; a quick one only if one is, and one of the
+/// books with forbidden sheets never. None for anything else.
+fn options(mut arguments: impl Iterator<Item = String>) -> Option<Options> {
+    let (mut quick, mut forbidden, mut folder) = (false, false, None);
     while let Some(argument) = arguments.next() {
         match argument.as_str() {
             "--quick" => quick = true,
+            "--forbidden" => forbidden = true,
             "--out" => folder = Some(arguments.next()?.into()),
             _ => return None,
         }
     }
-    let unasked = (!quick).then(|| DOCUMENTS.into());
-    Some((quick, folder.or(unasked)))
+    if forbidden && folder.is_some() {
+        return None;
+    }
+    let unasked = (!quick && !forbidden).then(|| DOCUMENTS.into());
+    Some(Options {
+        quick,
+        forbidden,
+        folder: folder.or(unasked),
+    })
+}
+
+/// The books with forbidden sheets, and each kind on each of them.
+fn forbidden(effort: &Effort) -> Forbidden {
+    let subjects = subjects::forbidding();
+    Forbidden {
+        measurements: measured(&subjects, effort),
+        subjects,
+    }
 }
 
 /// Each kind on each of its books, one kind after the other. All are compared first.
 fn measured(subjects: &[Subject], effort: &Effort) -> Vec<Measurement> {
-    eprintln!("compared: what all show");
-    agree::on_seeds(effort);
+    eprintln!("compared: what all show of {} books", subjects.len());
     let tables: Vec<_> = subjects.iter().map(Subject::tables).collect();
     for (subject, tables) in subjects.iter().zip(&tables) {
         agree::on_subject(subject, tables.as_ref());
@@ -155,11 +200,22 @@ mod tests {
     #[test]
     fn only_a_full_run_writes_unasked() {
         let of = |words: &str| options(words.split_whitespace().map(String::from));
-        assert_eq!(of(""), Some((false, Some(DOCUMENTS.into()))));
-        assert_eq!(of("--quick"), Some((true, None)));
-        assert_eq!(of("--quick --out x"), Some((true, Some("x".into()))));
-        assert_eq!(of("--out"), None);
-        assert_eq!(of("--fast"), None);
+        let options = |quick, forbidden, folder: Option<&str>| {
+            let folder = folder.map(PathBuf::from);
+            Some(Options {
+                quick,
+                forbidden,
+                folder,
+            })
+        };
+        assert_eq!(of(""), options(false, false, Some(DOCUMENTS)));
+        assert_eq!(of("--quick"), options(true, false, None));
+        assert_eq!(of("--quick --out x"), options(true, false, Some("x")));
+        assert_eq!(of("--forbidden"), options(false, true, None));
+        assert_eq!(of("--forbidden --quick"), options(true, true, None));
+        for wrong in ["--out", "--fast", "--forbidden --out x"] {
+            assert_eq!(of(wrong), None);
+        }
         assert!(Path::new(DOCUMENTS).join("DECISIONS.md").exists());
     }
 }

@@ -42,7 +42,8 @@ pub enum Opponent {
     Packed,
     Gecode,
     GecodeWithTables,
-    /// The library itself, on the same book with a value in place of each 255.
+    /// The library itself, on the same book with a value in place of each 255; or, where sheets are forbidden, on the
+    /// one that allows the same in plain sheets.
     Plain,
 }
 
@@ -86,6 +87,16 @@ impl Measurement {
             None => "-".into(),
             Some(small) if small < 0.0995 => format!("{small:.3}"),
             Some(ratio) => format!("{ratio:.2}"),
+        }
+    }
+
+    /// This opponent's time over the library's, in words.
+    pub fn times_text(&self, opponent: Opponent) -> String {
+        match self.ratio(opponent).map(f64::recip) {
+            None => "-".into(),
+            Some(small) if small < 9.995 => format!("{small:.2}"),
+            Some(middle) if middle < 99.95 => format!("{middle:.1}"),
+            Some(large) => thousands(large.round() as u64),
         }
     }
 }

@@ -15,7 +15,49 @@ pub struct Page<'a> {
     /// Finishes that their limit stopped.
     pub stopped: &'a [Tries],
     pub subjects: &'a [Subject],
+    pub forbidden: &'a Forbidden,
     pub effort: &'a Effort,
+}
+
+/// What is shown of the books with forbidden sheets.
+pub struct Forbidden {
+    pub measurements: Vec<Measurement>,
+    pub subjects: Vec<Subject>,
+}
+
+impl Forbidden {
+    /// The table in Markdown, laid out so that it also reads well in a terminal.
+    pub fn table(&self) -> String {
+        let mut text = String::from(HEAD_OF_FORBIDDEN);
+        let mut kind = None;
+        for it in &self.measurements {
+            if kind.replace(it.kind) != Some(it.kind) {
+                let title = format!("**{}**", it.kind.title());
+                text += &line_of_forbidden(&title, "", Default::default(), "");
+            }
+            let opponents = [
+                Opponent::Gecode,
+                Opponent::GecodeWithTables,
+                Opponent::Plain,
+            ];
+            let times = opponents.map(|opponent| it.times_text(opponent));
+            text += &line_of_forbidden(&it.book, &time(it.library), times, &it.note);
+        }
+        text
+    }
+
+    /// In how many rows Gecode is slower and faster.
+    fn against_gecode(&self) -> String {
+        let ratios = self.measurements.iter();
+        let ratios = ratios.filter_map(|it| it.ratio(Opponent::Gecode));
+        let slower = ratios.clone().filter(|it| *it < 1.0 / ALIKE).count();
+        let faster = ratios.clone().filter(|it| *it > ALIKE).count();
+        let alike = ratios.count() - slower - faster;
+        format!(
+            "Gecode is slower by more than a tenth in {slower} rows, alike in {alike}, faster in \
+             {faster}."
+        )
+    }
 }
 
 impl Page<'_> {
@@ -25,17 +67,19 @@ impl Page<'_> {
             "Gecode, which was not found when this was built: it has no figures".into(),
             |version| format!("Gecode {version}"),
         );
-        let book = |it: &Subject| format!("- **{}**: {}\n", it.name, it.size);
         let mut text = include_str!("page.md").to_string();
         let mut fill = |name: &str, words: &str| text = text.replace(&format!("{{{name}}}"), words);
         fill("machine", &self.machine());
         fill("gecode", &gecode);
         fill("table", &self.table());
+        fill("forbidden", &self.forbidden.table());
+        fill("forbidden against Gecode", &self.forbidden.against_gecode());
+        fill("forbidden books", &books(&self.forbidden.subjects));
         fill("tries", &self.tries());
         fill("limit", &thousands(self.effort.limit.get().into()));
         fill("worst try", &self.worst_try());
         fill("books of the limit", &books_of_the_limit());
-        fill("books", &self.subjects.iter().map(book).collect::<String>());
+        fill("books", &books(self.subjects));
         fill("seeded books", &thousands(self.effort.books));
         fill("seeded lists", &thousands(self.effort.lists));
         fill("seeded with Gecode", &thousands(self.effort.gecode));
@@ -51,13 +95,7 @@ impl Page<'_> {
 
     /// The processor, where the system tells it, and how many rounds there were.
     pub fn machine(&self) -> String {
-        let told = std::fs::read_to_string("/proc/cpuinfo").unwrap_or_default();
-        let line = told.lines().find(|line| line.starts_with("model name"));
-        let name = line.and_then(|line| line.split_once(": "));
-        let name = name.map_or("a processor without a name", |(_, name)| name.trim());
-        let rounds = || self.measurements.iter().map(|it| it.rounds);
-        let (least, most) = (rounds().min().unwrap_or(0), rounds().max().unwrap_or(0));
-        format!("{name}, {least} to {most} rounds a row")
+        machine(self.measurements)
     }
 
     /// The table in Markdown, laid out so that it also reads well in a terminal.
@@ -137,6 +175,17 @@ impl Page<'_> {
     }
 }
 
+/// The processor, where the system tells it, and how many rounds there were.
+pub fn machine(measurements: &[Measurement]) -> String {
+    let told = std::fs::read_to_string("/proc/cpuinfo").unwrap_or_default();
+    let line = told.lines().find(|line| line.starts_with("model name"));
+    let name = line.and_then(|line| line.split_once(": "));
+    let name = name.map_or("a processor without a name", |(_, name)| name.trim());
+    let rounds = || measurements.iter().map(|it| it.rounds);
+    let (least, most) = (rounds().min().unwrap_or(0), rounds().max().unwrap_or(0));
+    format!("{name}, {least} to {most} rounds a row")
+}
+
 const HEAD: &str = "\
 | book                           | library | / hand-optimised | / packed | / Gecode | / Gecode + tables | / plain | outcome                                |
 |--------------------------------|--------:|-----------------:|---------:|---------:|------------------:|--------:|----------------------------------------|
@@ -146,6 +195,16 @@ const HEAD_OF_TRIES: &str = "\
 | book                             | outcome                    |    time |   a try | tries a second |
 |----------------------------------|----------------------------|--------:|--------:|---------------:|
 ";
+
+const HEAD_OF_FORBIDDEN: &str = "\
+| book                           | library | Gecode / library | Gecode + tables / library | in plain sheets / library | outcome                                |
+|--------------------------------|--------:|-----------------:|--------------------------:|--------------------------:|----------------------------------------|
+";
+
+fn books(subjects: &[Subject]) -> String {
+    let book = |it: &Subject| format!("- **{}**: {}\n", it.name, it.size);
+    subjects.iter().map(book).collect()
+}
 
 fn books_of_the_limit() -> String {
     let book = |(name, book)| {
@@ -159,6 +218,13 @@ fn line(book: &str, library: &str, ratios: [String; Opponent::ALL.len()], note: 
     let [hand, packed, gecode, with_tables, plain] = ratios;
     format!(
         "| {book:30} | {library:>7} | {hand:>16} | {packed:>8} | {gecode:>8} | {with_tables:>17} | {plain:>7} | {note:38} |\n"
+    )
+}
+
+fn line_of_forbidden(book: &str, library: &str, times: [String; 3], note: &str) -> String {
+    let [gecode, with_tables, plain] = times;
+    format!(
+        "| {book:30} | {library:>7} | {gecode:>16} | {with_tables:>25} | {plain:>25} | {note:38} |\n"
     )
 }
 
@@ -186,10 +252,18 @@ mod tests {
         };
         let rows = |kind| [row(kind, "easy", 110.0), row(kind, "hard", 50.0)];
         let measurements = Kind::ALL.map(rows);
+        let forbidden = Forbidden {
+            measurements: vec![
+                row(Kind::Check, "few", 110.0),
+                row(Kind::Narrow, "few", 1.0),
+            ],
+            subjects: vec![],
+        };
         let page = Page {
             measurements: measurements.as_flattened(),
             stopped: &[tries("endless", Outcome::Stopped, 5)],
             subjects: &[],
+            forbidden: &forbidden,
             effort: &Effort::new(true),
         };
         let text = page.text();
@@ -201,11 +275,17 @@ mod tests {
             ratios.contains("|hard|100ns|2.00|-|0.003|-|1.25||"),
             "{ratios}"
         );
+        assert_eq!(
+            ratios.matches("|few|100ns|300|-|0.80||").count(),
+            2,
+            "{ratios}"
+        );
+        assert!(text.contains("slower by more than a tenth in 2 rows, alike in 0, faster in 0"));
         let width = |line: &str| line.chars().count();
-        let widths: Vec<usize> = page.table().lines().map(width).collect();
-        assert!(widths.iter().all(|width| *width == widths[0]));
-        let widths: Vec<usize> = page.tries().lines().map(width).collect();
-        assert!(widths.iter().all(|width| *width == widths[0]));
+        for table in [page.table(), page.tries(), forbidden.table()] {
+            let widths: Vec<usize> = table.lines().map(width).collect();
+            assert!(widths.iter().all(|width| *width == widths[0]));
+        }
         let words: String = page.tries().split_whitespace().collect();
         for row in [
             "|easy|foundafter2tries|100ns|50.0ns|20,000,000|",

@@ -1,5 +1,6 @@
 //! The books that are timed, and the lists that are timed on them.
 
+use crate::forbidden;
 use crate::gecode::Tables;
 use crate::hard;
 use crate::measurement::{thousands, Kind};
@@ -23,8 +24,11 @@ pub struct Subject {
     pub size: String,
     pub book: Vec<u8>,
     pub kinds: &'static [Kind],
-    /// The same book without 255, where this one has short rows.
+    /// The same book without 255, where this one has short rows; without forbidden sheets, where it has these and
+    /// there is room for their rows.
     pub plain: Option<Vec<u8>>,
+    /// Whether it has forbidden sheets.
+    pub forbids: bool,
     /// Narrows that cut rows and leave the session alive.
     narrows: Vec<Order>,
 }
@@ -38,9 +42,10 @@ impl Subject {
             kinds,
             narrows: match kinds {
                 CHECKED => vec![],
-                _ => narrows(book, &bytes),
+                _ => narrows(book, &aim_of(book, &bytes)),
             },
             plain: None,
+            forbids: false,
             book: bytes,
         }
     }
@@ -82,10 +87,34 @@ impl Subject {
         }
     }
 
-    /// Gecode's tables of it, where it is there. It knows plain books alone.
+    /// This book with forbidden sheets. The middle values are a full set of it, or it can be written in plain sheets.
+    fn forbidding(name: &str, book: &Book) -> Self {
+        let bytes = write(book);
+        let plain = forbidden::in_plain_sheets(book).map(|plain| {
+            let bytes = write(&plain);
+            (aim_of(&plain, &bytes), bytes)
+        });
+        let (aim, plain) = plain.unzip();
+        Self {
+            name: name.into(),
+            size: format!("{}; {}", size_of(book, bytes.len()), forbidden::kinds(book)),
+            kinds: &Kind::ALL,
+            narrows: narrows(book, &aim.unwrap_or_else(|| middle(book))),
+            plain,
+            forbids: true,
+            book: bytes,
+        }
+    }
+
+    /// Whether it is a book of document 01.
+    pub fn is_plain(&self) -> bool {
+        self.plain.is_none() && !self.forbids
+    }
+
+    /// Gecode's tables of it, where it is there. Of the books that aren't plain it gets those with forbidden sheets.
     pub fn tables(&self) -> Option<Tables<'_>> {
-        let plain = self.plain.is_none();
-        plain.then(|| Tables::of(&self.book)).flatten()
+        let known = self.is_plain() || self.forbids;
+        known.then(|| Tables::of(&self.book)).flatten()
     }
 
     /// The lists that are run to time this kind.
@@ -108,7 +137,15 @@ const CHECKED: &[Kind] = &[Kind::Check];
 const SHORT: &[Kind] = &[Kind::Check, Kind::Opening, Kind::Narrow];
 const ANSWERED: &[Kind] = &[Kind::Opening, Kind::Narrow];
 
-/// Every book that is timed.
+/// Every book with forbidden sheets that is timed.
+pub fn forbidding() -> Vec<Subject> {
+    let books = forbidden::books().into_iter();
+    books
+        .map(|(name, book)| Subject::forbidding(name, &book))
+        .collect()
+}
+
+/// Every other book that is timed.
 pub fn subjects() -> Vec<Subject> {
     let mut all = Vec::new();
     let mut add = |name: &str, book: Book, kinds: &'static [Kind]| {
@@ -185,7 +222,11 @@ fn chosen(counts: &[u8], sheets: &[(&[u8], usize)]) -> Book {
             }
         }
         let columns = columns.to_vec();
-        Sheet { columns, rows }
+        Sheet {
+            forbidden: false,
+            columns,
+            rows,
+        }
     };
     Book {
         counts: counts.to_vec(),
@@ -194,7 +235,7 @@ fn chosen(counts: &[u8], sheets: &[(&[u8], usize)]) -> Book {
 }
 
 /// The middle value of each column: a full set of harbour H, and of every planted book.
-fn middle(book: &Book) -> Vec<u8> {
+pub fn middle(book: &Book) -> Vec<u8> {
     book.counts.iter().map(|count| count / 2).collect()
 }
 
@@ -210,7 +251,11 @@ fn aim_of(book: &Book, bytes: &[u8]) -> Vec<u8> {
     let middle = middle(book);
     let fits = |sheet: &Sheet| {
         let values = sheet.columns.iter().map(|&c| middle[usize::from(c)]);
-        sheet.rows.contains(&values.collect())
+        let matches = |row: &Vec<u8>| {
+            let mut cells = row.iter().zip(values.clone());
+            cells.all(|(&cell, value)| [value, ANY].contains(&cell))
+        };
+        sheet.rows.iter().any(matches)
     };
     if book.sheets.iter().all(fits) {
         return middle;
@@ -223,9 +268,9 @@ fn aim_of(book: &Book, bytes: &[u8]) -> Vec<u8> {
 
 /// Narrows of every column that a sheet has, to a half, a quarter, an eighth and a sixteenth of its
 /// values in turn. Every value has its rows at the opening, so each of these cuts rows.
-fn narrows(book: &Book, bytes: &[u8]) -> Vec<Order> {
+fn narrows(book: &Book, aim: &[u8]) -> Vec<Order> {
     let mut narrows = Vec::new();
-    for ((column, value), &count) in (0..).zip(aim_of(book, bytes)).zip(&book.counts) {
+    for ((column, &value), &count) in (0..).zip(aim).zip(&book.counts) {
         let mut sheets = book.sheets.iter();
         if sheets.any(|sheet| sheet.columns.contains(&column)) {
             let kept = all_values(((count / 2) >> (column % 4)).max(1));

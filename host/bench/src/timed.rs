@@ -59,10 +59,11 @@ pub fn measure(
         },
         parts: (lists.len() * turns) as f64,
     };
-    let mut contenders = match (&subject.plain, kind) {
-        (Some(plain), _) => by_itself(kind, work, &subject.book, plain),
-        (None, Kind::Check) => checks(work, &subject.book),
-        (None, _) => runs(work, &subject.book),
+    let book = &subject.book;
+    let mut contenders = match (subject.is_plain(), kind) {
+        (false, _) => by_itself(kind, work, book, subject.plain.as_deref()),
+        (true, Kind::Check) => checks(work, book),
+        (true, _) => runs(work, book),
     };
     contenders.extend(gecode.into_iter().flat_map(|it| by_gecode(kind, work, it)));
     let (who, jobs): (Vec<_>, Vec<_>) = contenders.into_iter().unzip();
@@ -113,22 +114,20 @@ thread_local! {
         const { RefCell::new(Space { answers: [0; _], shown: [NOTHING; _] }) };
 }
 
-/// Of a book that isn't plain the library is its own opponent, on one that is.
+/// Of a book that isn't plain the library is its own opponent, on one that is, where there is one.
 fn by_itself<'a>(
     kind: Kind,
     work: Work<'a>,
     book: &'a [u8],
-    plain: &'a [u8],
+    plain: Option<&'a [u8]>,
 ) -> Vec<Contender<'a>> {
     let of = |book| match kind {
         Kind::Check => checks(work, book),
         _ => runs(work, book),
     };
     let library = |book| of(book).swap_remove(0).1;
-    vec![
-        (None, library(book)),
-        (Some(Opponent::Plain), library(plain)),
-    ]
+    let plain = plain.map(|plain| (Some(Opponent::Plain), library(plain)));
+    [(None, library(book))].into_iter().chain(plain).collect()
 }
 
 /// Runs over a plain book; the library comes first.

@@ -1,5 +1,6 @@
 //! Described books: the ones that have a name, and any other from a seed.
 
+use crate::forbidding::with_forbidden;
 use crate::{kit, Random};
 use reference::{Book, Sheet, ANY};
 
@@ -29,13 +30,38 @@ pub fn regular(columns: usize, values: u8, sheets: usize, rows: usize, width: us
     with_sheets(random, vec![values; columns], sheets, |_| (rows, width))
 }
 
+/// Every way to take one number of each list; what is taken of the last changes first.
+pub fn one_of_each(lists: &[Vec<u8>]) -> Vec<Vec<u8>> {
+    let mut all = vec![vec![]];
+    for list in lists {
+        let with = |taken: &Vec<u8>| {
+            let longer = list.iter().map(|&number| [&taken[..], &[number]].concat());
+            longer.collect::<Vec<_>>()
+        };
+        all = all.iter().flat_map(with).collect();
+    }
+    all
+}
+
 /// A book of one sheet over all columns, of so many values each.
 pub fn one_sheet(counts: &[u8], rows: Vec<Vec<u8>>) -> Book {
     let columns = (0..counts.len() as u8).collect();
+    let sheet = Sheet {
+        forbidden: false,
+        columns,
+        rows,
+    };
     Book {
         counts: counts.to_vec(),
-        sheets: vec![Sheet { columns, rows }],
+        sheets: vec![sheet],
     }
+}
+
+/// The same of a forbidden sheet; its rows must rise.
+pub fn one_forbidden(counts: &[u8], rows: Vec<Vec<u8>>) -> Book {
+    let mut book = one_sheet(counts, rows);
+    book.sheets[0].forbidden = true;
+    book
 }
 
 /// Any book of the format, from one column alone to 33 blocks.
@@ -64,7 +90,7 @@ pub fn any_book(random: &mut Random) -> Book {
         };
         (rows, random.within(1..=columns.min(4)))
     });
-    shortened(random, book)
+    with_forbidden(random, shortened(random, book))
 }
 
 /// Up to three columns of up to four values, up to three sheets of up to eight rows.
@@ -100,7 +126,7 @@ pub(crate) fn largest_book(random: &mut Random) -> Book {
     let book = with_sheets(random, vec![32; 16], 8, |random| {
         (508, random.within(1..=4))
     });
-    shortened(random, book)
+    with_forbidden(random, shortened(random, book))
 }
 
 /// Columns in a ring, each as the one before it says, and the last one more than the first: a value
@@ -167,6 +193,7 @@ fn pairs(
     let mut rows: Vec<Vec<u8>> = rows.iter().flat_map(|it| vec![row(it); times]).collect();
     random.shuffle(&mut rows);
     Sheet {
+        forbidden: false,
         columns: vec![first as u8, second as u8],
         rows,
     }
@@ -181,13 +208,17 @@ pub(crate) fn any_set(random: &mut Random, book: &Book) -> Vec<u8> {
 }
 
 /// Puts a row of this set in the place of some row of each sheet, so that it is a full set of the
-/// book. A sheet without rows stays so.
+/// book; from a forbidden sheet that row is taken. A sheet without rows stays so.
 pub fn plant(random: &mut Random, book: &mut Book, set: &[u8]) {
     for sheet in &mut book.sheets {
         if !sheet.rows.is_empty() {
             let columns = sheet.columns.iter();
-            let row = columns.map(|&column| set[usize::from(column)]).collect();
+            let row: Vec<u8> = columns.map(|&column| set[usize::from(column)]).collect();
             let place = random.below(sheet.rows.len());
+            if sheet.forbidden {
+                sheet.rows.retain(|it| *it != row);
+                continue;
+            }
             sheet.rows[place] = row;
         }
     }
@@ -238,7 +269,7 @@ fn with_sheets(
     Book { counts, sheets }
 }
 
-fn sheet(random: &mut Random, counts: &[u8], width: usize, rows: usize) -> Sheet {
+pub(crate) fn sheet(random: &mut Random, counts: &[u8], width: usize, rows: usize) -> Sheet {
     let columns = columns(random, counts.len(), width);
     let limits: Vec<u64> = columns
         .iter()
@@ -250,7 +281,11 @@ fn sheet(random: &mut Random, counts: &[u8], width: usize, rows: usize) -> Sheet
         (0..width).map(|i| value(i) as u8).collect()
     };
     let rows = (0..rows).map(|_| row(random)).collect();
-    Sheet { columns, rows }
+    Sheet {
+        forbidden: false,
+        columns,
+        rows,
+    }
 }
 
 /// So many columns out of `all`, in rising order.

@@ -1,6 +1,7 @@
 //! One seeded input: a book, damaged or not, or bytes that never were one.
 
-use crate::{any_book, mend, write, Random, Region, BLOCK, LONGEST};
+use crate::books::largest_book;
+use crate::{any_book, mend, rising_rows, write, Random, Region, BLOCK, FORBIDDEN, LONGEST};
 use reference::Book;
 
 /// When the checks were made right again. Without it most damage ends as a wrong check.
@@ -31,7 +32,8 @@ impl Case {
         let random = &mut Random::new(seed);
         let (times, mend) = match random.below(22) {
             0 => (0, Mend::Never),
-            1..=7 => (1, Mend::AtTheEnd),
+            1..=6 => (1, Mend::AtTheEnd),
+            7 => return Self::fallen_rows(random),
             8..=10 => (1, Mend::Never),
             11..=15 => (2, Mend::AtTheEnd),
             16 => (2, Mend::Never),
@@ -51,6 +53,20 @@ impl Case {
         }
         let times = random.within(2..=3);
         Self::damaged(random, &book, &Region::ROWS, times, Mend::AtTheEnd)
+    }
+
+    /// Rows of forbidden sheets that don't rise, and nothing else.
+    fn fallen_rows(random: &mut Random) -> Self {
+        let has_rows = |book: &Book| rising_rows(book).iter().any(|rows| rows.len() > 1);
+        // By chance few books have the last blocks.
+        let large = random.once_in(8);
+        let drawn = if large { largest_book } else { any_book };
+        let mut book = drawn(random);
+        while !has_rows(&book) {
+            book = drawn(random);
+        }
+        let times = random.within(1..=3);
+        Self::damaged(random, &book, &[Region::RowOrder], times, Mend::AtTheEnd)
     }
 
     /// A book after so many times damage to some of these regions.
@@ -119,7 +135,7 @@ fn near_head(random: &mut Random, head: &mut [u8]) {
     }
     for entry in head[24..24 + 8 * sheets].chunks_exact_mut(8) {
         let width = random.within(1..=4);
-        entry[0] = width as u8;
+        entry[0] = width as u8 + random.pick(&[0, 0, FORBIDDEN]);
         let mut number = 0;
         for column in &mut entry[1..1 + width] {
             *column = number as u8;

@@ -61,7 +61,11 @@ fn covering_sheet(random: &mut Random, counts: &[u8]) -> Sheet {
     }
     random.shuffle(&mut rows);
     rows.truncate(MOST_ROWS);
-    Sheet { columns, rows }
+    Sheet {
+        forbidden: false,
+        columns,
+        rows,
+    }
 }
 
 /// One value of each column.

@@ -64,7 +64,8 @@ fn sorts_of(book: &Book, seen: &Seen) -> [bool; WORDS.len()] {
     }
     for (s, sheet) in book.sheets.iter().enumerate() {
         let open = open_columns(sheet, seen);
-        if open < 2 {
+        // Forbidden sheets are counted by themselves.
+        if open < 2 || sheet.forbidden {
             continue;
         }
         let rows = sheet.rows.iter();
@@ -123,6 +124,9 @@ fn has_sheet_that_allows_all(book: &Book) -> bool {
     let values: Vec<u32> = counts.map(|&count| all_values(count)).collect();
     let mut sheets = book.sheets.iter();
     sheets.any(|sheet| {
+        if sheet.forbidden {
+            return sheet.rows.is_empty();
+        }
         let rows: Vec<&[u8]> = sheet.rows.iter().map(|row| &row[..]).collect();
         missing(&rows, &held(sheet, &values)) == 0
     })

@@ -45,6 +45,18 @@ pub fn example_orders() -> [Order; 6] {
     [MARK, narrow(2, 1), FINISH, back(1), back(1), narrow(0, 4)]
 }
 
+/// Every mask on each of so many columns of 2 values, each undone, and a finish in each state.
+pub fn every_mask(width: usize) -> Vec<Order> {
+    let mut orders = Vec::new();
+    for masks in 0..1 << (2 * width) {
+        orders.push(MARK);
+        let mask = |column: usize| masks >> (2 * column) & 3;
+        orders.extend((0..width).map(|column| narrow(column as u8, mask(column))));
+        orders.extend([FINISH, back(1)]);
+    }
+    orders
+}
+
 /// How often each kind of order comes in a list, by its first letter; w is a wrong one.
 const STYLES: [&[u8]; 3] = [
     b"nnnnnnnnnnmmmbbbfww",

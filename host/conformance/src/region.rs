@@ -1,10 +1,15 @@
 //! The regions of a book, each with the damage that aims at it.
 
-use crate::{row_bytes, Random, RowByte, BLOCK, LONGEST};
+use crate::{rising_rows, row_bytes, Random, RowByte, BLOCK, LONGEST, ROWS_OF_A_BLOCK};
 use reference::Book;
 
 /// Bytes that are near some limit of the format.
 const NEAR_LIMITS: [u8; 16] = [0, 1, 2, 3, 4, 5, 8, 9, 16, 17, 32, 33, 252, 253, 254, 255];
+
+/// Width bytes of either kind, and the first that are none.
+const NEAR_WIDTHS: [u8; 16] = [
+    0, 1, 2, 3, 4, 5, 127, 128, 129, 130, 131, 132, 133, 134, 192, 255,
+];
 
 /// Any, bytes next to it, and others that are too large for a value.
 const NEAR_ANY: [u8; 9] = [255, 255, 255, 254, 254, 128, 128, 127, 32];
@@ -30,6 +35,8 @@ pub enum Region {
     RowFiller,
     /// A byte of an unused row.
     UnusedRow,
+    /// Rows of a forbidden sheet, which no longer rise.
+    RowOrder,
     /// A whole block.
     Block,
     /// Any byte.
@@ -38,8 +45,9 @@ pub enum Region {
 
 impl Region {
     /// All of them.
-    pub const ALL: [Self; 19] = [
+    pub const ALL: [Self; 22] = [
         Self::Length,
+        Self::BlockCount, // twice: refusal 4 comes of little else
         Self::BlockCount,
         Self::Check,
         Self::Head(0, 3),  // the letters FGB1
@@ -56,16 +64,19 @@ impl Region {
         Self::RowValue,
         Self::RowFiller,
         Self::UnusedRow,
+        Self::RowOrder, // twice: fewer books have it
+        Self::RowOrder,
         Self::Block,
         Self::Anywhere,
     ];
 
     /// Those of the rows, values as often as zeros.
-    pub(crate) const ROWS: [Self; 4] = [
+    pub(crate) const ROWS: [Self; 5] = [
         Self::RowValue,
         Self::RowValue,
         Self::RowFiller,
         Self::UnusedRow,
+        Self::RowOrder,
     ];
 
     /// Damages this region of a book that was written as `whole`; whether the book has it.
@@ -80,12 +91,14 @@ impl Region {
             Self::Length => length(random, whole.len(), bytes),
             Self::BlockCount => block_count(random, whole.len() / BLOCK, bytes),
             Self::Block => block(random, whole.len() / BLOCK, bytes),
+            Self::RowOrder => return row_order(random, book, bytes),
             _ => {
                 let Some(at) = self.byte(random, book, whole.len()) else {
                     return false;
                 };
                 let value = match self {
                     Self::RowValue => row_value(random, whole[at]),
+                    Self::Entry(0, 0) if random.once_in(2) => random.pick(&NEAR_WIDTHS),
                     Self::RowFiller | Self::UnusedRow if random.once_in(3) => {
                         random.pick(&NEAR_ANY)
                     }
@@ -104,7 +117,16 @@ impl Region {
     fn byte(self, random: &mut Random, book: &Book, length: usize) -> Option<usize> {
         let used = book.sheets.len();
         match self {
-            Self::Check => Some(random.below(length / BLOCK) * BLOCK + random.within(508..=511)),
+            Self::Check => {
+                // In one case of four the last: few books have many blocks.
+                let last = length / BLOCK - 1;
+                let block = if random.once_in(4) {
+                    last
+                } else {
+                    random.below(last + 1)
+                };
+                Some(block * BLOCK + random.within(508..=511))
+            }
             Self::Head(first, last) => Some(one_of(random, first, last)),
             Self::Entry(first, last) => {
                 (used > 0).then(|| 24 + one_of(random, first, last) + 8 * random.below(used))
@@ -168,6 +190,37 @@ fn row_value(random: &mut Random, old: u8) -> u8 {
     } else {
         value
     }
+}
+
+/// Makes a row of a forbidden sheet equal to the one before it, or lower; whether there is one that has a row before
+/// it. In half of the cases it is at the end of a block or the start, or the last.
+fn row_order(random: &mut Random, book: &Book, bytes: &mut [u8]) -> bool {
+    let mut sheets = rising_rows(book);
+    sheets.retain(|rows| rows.len() > 1);
+    let Some(rows) = sheets.get(random.below(sheets.len())) else {
+        return false;
+    };
+    let edges = [ROWS_OF_A_BLOCK - 1, 0].map(|edge| {
+        let later = (1..rows.len()).filter(|r| r % ROWS_OF_A_BLOCK == edge);
+        later.collect::<Vec<_>>()
+    });
+    let edges = [edges.concat(), vec![rows.len() - 1]].concat();
+    let r = if random.once_in(2) {
+        random.pick(&edges)
+    } else {
+        random.within(1..=rows.len() - 1)
+    };
+    let (from, to) = match random.below(4) {
+        0 | 1 => (r - 1, r),
+        2 => (random.below(r), r),
+        _ => (random.within(r..=rows.len() - 1), r - 1),
+    };
+    let (from, to) = (rows[from], rows[to]);
+    // Damage before this may have cut the rows off.
+    if from.max(to) + 4 <= bytes.len() {
+        bytes.copy_within(from..from + 4, to);
+    }
+    true
 }
 
 /// Cuts the book, or lengthens it with zeros.

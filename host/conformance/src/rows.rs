@@ -13,12 +13,14 @@ pub struct RowByte {
     pub region: Region,
     /// The lowest number that is wrong in it: its column's V, or 1 where it must be zero.
     pub limit: u8,
+    /// Whether any may stand there: in the place of a value, but not of a forbidden sheet.
+    pub any: bool,
 }
 
 impl RowByte {
-    /// Whether it may be this: below its limit, or any in the place of a value.
+    /// Whether it may be this: below its limit, or any where that may stand.
     pub fn may_be(&self, byte: u8) -> bool {
-        byte < self.limit || (self.region == Region::RowValue && byte == ANY)
+        byte < self.limit || (self.any && byte == ANY)
     }
 
     /// Refusal 5 for a value, 6 for a byte that must be zero.
@@ -35,6 +37,26 @@ impl RowByte {
     }
 }
 
+/// Where a row of a sheet stands in the file; the sheet's rows start with this block.
+fn start(first_block: usize, row: usize) -> usize {
+    let block = first_block + row / ROWS_OF_A_BLOCK;
+    block * BLOCK + row % ROWS_OF_A_BLOCK * 4
+}
+
+/// For each forbidden sheet, where each of its rows stands in the file.
+pub fn rising_rows(book: &Book) -> Vec<Vec<usize>> {
+    let mut found = Vec::new();
+    let mut first_block = 1;
+    for sheet in &book.sheets {
+        let rows = 0..sheet.rows.len();
+        if sheet.forbidden {
+            found.push(rows.map(|row| start(first_block, row)).collect());
+        }
+        first_block += sheet.rows.len().div_ceil(ROWS_OF_A_BLOCK);
+    }
+    found
+}
+
 /// Every byte of the rows of a book, in file order.
 pub fn row_bytes(book: &Book) -> Vec<RowByte> {
     let mut found = Vec::new();
@@ -42,8 +64,7 @@ pub fn row_bytes(book: &Book) -> Vec<RowByte> {
     for (number, sheet) in book.sheets.iter().enumerate() {
         let blocks = sheet.rows.len().div_ceil(ROWS_OF_A_BLOCK);
         for row in 0..blocks * ROWS_OF_A_BLOCK {
-            let block = first_block + row / ROWS_OF_A_BLOCK;
-            let start = block * BLOCK + row % ROWS_OF_A_BLOCK * 4;
+            let start = start(first_block, row);
             found.extend((0..4).map(|i| {
                 let (region, limit) = match sheet.columns.get(i) {
                     _ if row >= sheet.rows.len() => (Region::UnusedRow, 1),
@@ -55,6 +76,7 @@ pub fn row_bytes(book: &Book) -> Vec<RowByte> {
                     sheet: number,
                     region,
                     limit,
+                    any: region == Region::RowValue && !sheet.forbidden,
                 }
             }));
         }

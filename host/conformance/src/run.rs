@@ -1,6 +1,7 @@
 //! One seeded input of a run: a book, a list of orders, and a space for the answers.
 
 use crate::covers::covering;
+use crate::forbidding::{forbidding, partly_turned};
 use crate::limits::limit_finishes;
 use crate::orders::{any_list, back, finish, narrow, searches, FINISH, MARK};
 use crate::searching::searching;
@@ -20,6 +21,8 @@ pub enum Shape {
     Differing,
     /// Sheets that allow every choice, or all but one, so that they are done with several columns open.
     Covering,
+    /// Forbidden sheets that leave little of something, and plain ones.
+    Forbidding,
     /// Sheets that contradict each other after some columns, so that a search takes many tries.
     Searching,
     /// Anything that the format has.
@@ -50,7 +53,8 @@ impl Run {
         let shape = match random.below(40) {
             0..=7 => Shape::Tiny,
             8..=9 => Shape::Searching,
-            10..=19 => Shape::Small,
+            10..=15 => Shape::Small,
+            16..=19 => Shape::Forbidding,
             20..=23 => Shape::Covering,
             24..=28 => Shape::Ring,
             29..=31 => Shape::Differing,
@@ -64,9 +68,15 @@ impl Run {
             Shape::Ring => books::ring(random),
             Shape::Differing => books::differing(random),
             Shape::Covering => covering(random),
+            Shape::Forbidding => planted(random, forbidding, 0..=3),
             Shape::Searching => searching(random),
             Shape::Any | Shape::Damaged => planted(random, any_book, 0..=8),
             Shape::Largest => planted(random, books::largest_book, 0..=8),
+        };
+        // A book that allows the same: the aim stays one.
+        let book = match shape {
+            Shape::Any | Shape::Damaged | Shape::Largest | Shape::Forbidding => book,
+            _ => partly_turned(random, book),
         };
         let length = length(random, shape);
         let mut list = any_list(random, &book, &aim, length);

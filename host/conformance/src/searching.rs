@@ -9,10 +9,12 @@ use reference::{Book, Sheet};
 pub fn contradicting(free: &[u8], values: u8) -> Book {
     let first = free.len() as u8;
     let same = |column: u8| Sheet {
+        forbidden: false,
         columns: vec![column, column + 1],
         rows: (0..values).map(|value| vec![value, value]).collect(),
     };
     let next = Sheet {
+        forbidden: false,
         columns: vec![first, first + 2],
         rows: (0..values)
             .map(|value| vec![value, (value + 1) % values])

@@ -5,6 +5,9 @@ use reference::{right_check, Book, BLOCK, ROWS_OF_A_BLOCK};
 /// The longest book in blocks.
 pub const LONGEST: usize = 33;
 
+/// What the width byte of a forbidden sheet has more than its width.
+pub const FORBIDDEN: u8 = 128;
+
 /// The bytes of a book, with right checks.
 ///
 /// The limits of the format are not held, so that a book just past them can be described too; only
@@ -21,7 +24,7 @@ pub fn write(book: &Book) -> Vec<u8> {
         assert!(width <= 4);
         let rows = u16::try_from(sheet.rows.len()).expect("a row count is two bytes");
         let entry = &mut bytes[24 + 8 * s..32 + 8 * s];
-        entry[0] = width as u8;
+        entry[0] = width as u8 + if sheet.forbidden { FORBIDDEN } else { 0 };
         entry[1..=width].copy_from_slice(&sheet.columns);
         entry[6..].copy_from_slice(&rows.to_le_bytes());
         for rows in sheet.rows.chunks(ROWS_OF_A_BLOCK) {

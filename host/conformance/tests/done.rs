@@ -1,20 +1,7 @@
 //! Done sheets: every small sheet, by trying each choice of its columns; and the largest.
 
-use conformance::{agreed_answers, back, narrow, one_sheet, stairs};
-use conformance::{Book, Order, Seen, ANY, FINISH, MARK};
-
-/// Every way to take one number of each list; what is taken of the last changes first.
-fn one_of_each(lists: &[Vec<u8>]) -> Vec<Vec<u8>> {
-    let mut all = vec![vec![]];
-    for list in lists {
-        let with = |taken: &Vec<u8>| {
-            let longer = list.iter().map(|&number| [&taken[..], &[number]].concat());
-            longer.collect::<Vec<_>>()
-        };
-        all = all.iter().flat_map(with).collect();
-    }
-    all
-}
+use conformance::{agreed_answers, back, every_mask, narrow, one_of_each, one_sheet, stairs};
+use conformance::{Book, Order, Seen, ANY, MARK};
 
 /// "Done now holds exactly when the session isn't dead and every choice of one value from the current
 /// domain of each column of the sheet is allowed by it", by trying each choice. The sheet has all columns.
@@ -28,18 +15,6 @@ fn is_done(book: &Book, state: &Seen) -> bool {
         rows.any(|row| row.iter().zip(choice).all(matches))
     };
     !state.is_dead() && choices.iter().all(allowed)
-}
-
-/// Every mask on each of so many columns of 2 values, each undone, and a finish in each state.
-fn every_mask(width: usize) -> Vec<Order> {
-    let mut orders = Vec::new();
-    for masks in 0..1 << (2 * width) {
-        orders.push(MARK);
-        let mask = |column: usize| masks >> (2 * column) & 3;
-        orders.extend((0..width).map(|column| narrow(column as u8, mask(column))));
-        orders.extend([FINISH, back(1)]);
-    }
-    orders
 }
 
 /// How many answers were tried, and how many of them are done with two columns open or more.

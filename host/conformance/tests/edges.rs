@@ -1,6 +1,7 @@
 //! The edges of documents 01 and 02, each with the number that it must give.
 
-use conformance::{agreed, changed, harbour, mend, refused, regular, tiny, write, Book, BLOCK};
+use conformance::{agreed, changed, harbour, mend, one_forbidden, refused, regular, tiny, write};
+use conformance::{Book, BLOCK};
 
 /// The file that readers of the documents try first.
 #[test]
@@ -139,6 +140,130 @@ fn any_whatever_the_values() {
         ];
         each_gives(&regular(1, values, 1, 128, 1), &changes);
     }
+}
+
+/// "Width byte 129 to 132 marks a forbidden sheet of width 1 to 4." H's rows rise in both sheets.
+#[test]
+fn width_bytes_of_harbour() {
+    let changes = [
+        ("24=130 32=130 24=130+32=130", 50),
+        (
+            "24=0 24=5 24=127 24=128 24=133 24=194 24=255",
+            refused(3, 24),
+        ),
+        (
+            "32=0 32=5 32=127 32=128 32=133 32=194 32=255",
+            refused(3, 32),
+        ),
+        ("24=129", refused(3, 26)),
+        ("24=131 24=132", refused(3, 27)),
+        ("32=129", refused(3, 34)),
+        ("40=129 40=130", refused(3, 40)),
+        // Of one column, with its number alone; and of three.
+        (
+            "24=129+26=0+512=0+513=0+516=1+520=2+521=0+30=3+524=0+525=0",
+            50,
+        ),
+        ("24=131+27=2", 50),
+        ("24=131+27=1", refused(3, 27)),
+    ];
+    each_gives(&harbour(), &changes);
+}
+
+/// "Its rows rise strictly as byte strings", with sheet 0 a forbidden one, or sheet 1, or both: 00 10 11 21 and 00 01 11.
+/// "7 for rows that don't rise, place the offset, as in W1, of the first row not above the one before it".
+#[test]
+fn rows_of_harbour_that_dont_rise() {
+    let changes = [
+        // 00 10 11 20, 00 01 11 21 and 01 10 11 21: the first byte that differs decides.
+        ("24=130+525=0 24=130+516=0+517=1 24=130+513=1", 50),
+        ("24=130+516=0", refused(7, 129)),
+        ("24=130+512=1 24=130+512=2", refused(7, 129)),
+        ("24=130+521=0 24=130+520=0", refused(7, 130)),
+        ("24=130+516=2 24=130+516=2+517=1", refused(7, 130)),
+        (
+            "24=130+524=1 24=130+524=0 24=130+524=0+525=0",
+            refused(7, 131),
+        ),
+        ("32=130+1029=0", refused(7, 257)),
+        (
+            "32=130+1033=0+1032=0 32=130+1029=1+1033=1+1028=1",
+            refused(7, 258),
+        ),
+        // The first in the file, and nothing of a plain sheet.
+        (
+            "24=130+32=130+516=0+524=1 24=130+32=130+516=0+1029=0",
+            refused(7, 129),
+        ),
+        ("24=130+32=130+1029=0+1032=0", refused(7, 257)),
+        ("516=0 524=0 24=130+1029=0 32=130+516=0", 50),
+        // With 3 rows said, the fourth must be zero, and need not rise; with 5, the row of zeros after it must.
+        ("24=130+30=3+524=0+525=0", 50),
+        ("24=130+30=5", refused(7, 132)),
+    ];
+    each_gives(&harbour(), &changes);
+}
+
+/// "after 5 and 6": wherever these stand.
+#[test]
+fn a_fault_beside_rows_that_dont_rise() {
+    let changes = [
+        ("24=130+516=0+512=3", refused(5, 128)),
+        ("24=130+516=0+524=3", refused(5, 131)),
+        ("24=130+516=0+1024=2 24=130+516=0+1025=254", refused(5, 256)),
+        ("24=130+516=0+514=1", refused(6, 128)),
+        ("24=130+516=0+519=1", refused(6, 129)),
+        ("24=130+516=0+528=1", refused(6, 132)),
+        ("24=130+516=0+1019=1", refused(6, 254)),
+        ("24=130+516=0+1034=1", refused(6, 258)),
+        ("24=130+516=0+1531=1", refused(6, 382)),
+        ("24=130+516=0+1034=1+524=3", refused(5, 131)),
+        ("24=130+516=0+88=1", refused(3, 88)),
+    ];
+    each_gives(&harbour(), &changes);
+}
+
+/// "255 is refused with 5" in a forbidden sheet, in the place of a value; elsewhere it stays 6.
+#[test]
+fn any_in_a_forbidden_sheet_of_harbour() {
+    let changes = [
+        (
+            "24=130+524=255 24=130+525=255 24=130+524=255+525=255",
+            refused(5, 131),
+        ),
+        (
+            "24=130+512=255 24=130+513=255 24=130+512=255+516=0",
+            refused(5, 128),
+        ),
+        ("24=130+524=254 24=130+524=128", refused(5, 131)),
+        ("24=130+526=255 24=130+527=255", refused(6, 131)),
+        ("24=130+528=255 24=130+531=255", refused(6, 132)),
+        ("24=130+1025=255 32=130+525=255", 50),
+        ("32=130+1032=255 32=130+1033=255", refused(5, 258)),
+        ("32=130+1034=255", refused(6, 258)),
+        ("32=130+1036=255", refused(6, 259)),
+    ];
+    each_gives(&harbour(), &changes);
+}
+
+/// On both sides of a check: rows 0 0 to 7 15, of which row 126 ends block 1 and row 127 begins block 2.
+#[test]
+fn rows_on_both_sides_of_a_check_that_dont_rise() {
+    let rows = (0..130).map(|r| vec![r / 16, r % 16]).collect();
+    let changes = [
+        ("1017=14 1025=15", 33),
+        ("1017=13 1016=0 1016=6", refused(7, 254)),
+        (
+            "1017=15 1025=14 1024=6 1024=0 1016=8 1016=15",
+            refused(7, 256),
+        ),
+        ("1028=7 1028=0 1024=8+1025=0", refused(7, 257)),
+        ("1017=13+1025=14", refused(7, 254)),
+        ("1016=255", refused(5, 254)),
+        ("1025=255", refused(5, 256)),
+        ("1017=13+1535=1", refused(7, 254)),
+    ];
+    each_gives(&one_forbidden(&[16, 16], rows), &changes);
 }
 
 /// Two faults of rows in one book: the first in the file counts, whichever it is. In one row the

@@ -57,6 +57,7 @@ fn every_limit_of_every_small_book() {
     let pairs = [[0, 1], [0, 2], [1, 2]];
     for rows in 0..1 << 12 {
         let sheet = |(i, columns): (usize, &[u8; 2])| Sheet {
+            forbidden: false,
             columns: columns.to_vec(),
             rows: (0..4)
                 .filter(|row| rows >> (4 * i + row) & 1 == 1)
@@ -104,9 +105,21 @@ fn every_limit_of_seeded_books() {
 /// Books of so many seeds in which a search has something to do.
 fn searched_books(seeds: u64) -> impl Iterator<Item = Book> {
     let runs = (0..seeds).map(Run::new);
-    let shapes = [Shape::Searching, Shape::Differing, Shape::Small];
+    let shapes = [
+        Shape::Searching,
+        Shape::Differing,
+        Shape::Small,
+        Shape::Forbidding,
+    ];
     let such = runs.filter(move |run| shapes.contains(&run.shape));
     such.map(|run| decode(&run.book).expect("an accepted book"))
+}
+
+/// "A buyer's comparison between lists covers mixed books."
+fn is_mixed(book: &Book) -> bool {
+    let mut kinds = book.sheets.iter().map(|sheet| sheet.forbidden);
+    let first = kinds.next();
+    kinds.any(|kind| Some(kind) != first)
 }
 
 /// Every value of each column but one, or every one.
@@ -142,6 +155,7 @@ fn equal_allowed_values_give_equal_tries() {
     let mut tally = Tally::default();
     for book in searched_books(4_000) {
         let allowed = any_allowed(random, &book);
+        tally.add("books with sheets of both kinds", is_mixed(&book).into());
         let lists = [straight(&allowed), around(random, &book, &allowed)];
         let ended = every_limit(&book, &lists[0]);
         count(&mut tally, &ended);
@@ -165,6 +179,7 @@ fn a_narrower_list_and_a_wider_one() {
     let random = &mut Random::new(5);
     let mut tally = Tally::default();
     for book in searched_books(12_000) {
+        tally.add("books with sheets of both kinds", is_mixed(&book).into());
         let wide = any_allowed(random, &book);
         let narrower = any_allowed(random, &book).into_iter().zip(&wide);
         let narrower: Vec<u32> = narrower.map(|(mask, wide)| mask & wide).collect();

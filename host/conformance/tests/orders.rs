@@ -173,6 +173,7 @@ fn the_dead_come_back() {
 fn every_row_of_a_sheet_alone() {
     // The two columns give the row its number, 16 times the first and then the second.
     let sheet = |n: usize| Sheet {
+        forbidden: false,
         columns: vec![0, 1],
         rows: (0..n)
             .map(|r| vec![(r / 16) as u8, (r % 16) as u8])

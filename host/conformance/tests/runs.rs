@@ -4,8 +4,8 @@
 //! `FITTING_SESSIONS` asks for more of them than the usual number.
 
 use conformance::{agreed_run, asked, show, space_for};
-use conformance::{count_done, count_short, count_steps, count_tries};
-use conformance::{look_for_done, look_for_steps, look_for_tries};
+use conformance::{count_done, count_forbidden, count_short, count_steps, count_tries};
+use conformance::{look_for_done, look_for_forbidden, look_for_steps, look_for_tries};
 use conformance::{Random, Run, Seen, Shape::*, Tally};
 use reference::{book_refusals, run_refusals};
 use std::panic;
@@ -54,6 +54,7 @@ fn answers(seed: u64, tally: &mut Tally) -> Vec<Seen> {
     count_short(tally, &book, &answers);
     count_done(tally, &book, orders, &answers);
     count_tries(tally, &book, orders, &answers);
+    count_forbidden(tally, &book, orders, &answers);
     answers
 }
 
@@ -74,12 +75,13 @@ fn every_run_agrees() {
     look_for_steps(&mut tally);
     look_for_done(&mut tally);
     look_for_tries(&mut tally);
+    look_for_forbidden(&mut tally);
     let books = book_refusals().into_iter().map(|(refusal, _)| refusal);
     for refusal in books.chain(run_refusals()).chain([0]) {
         tally.add(&format!("runs, refusal {refusal}"), 0);
     }
     for shape in [
-        Tiny, Small, Ring, Differing, Covering, Searching, Any, Largest, Damaged,
+        Tiny, Small, Ring, Differing, Covering, Forbidding, Searching, Any, Largest, Damaged,
     ] {
         tally.add(&format!("books: {shape:?}"), 0);
     }

@@ -2,9 +2,9 @@
 //!
 //! `FITTING_CASES` asks for more of them than the usual number.
 
-use conformance::{agreed, asked, has_short_rows, refused, show, spelled};
-use conformance::{Book, Case, Mend, Region, Sheet, Tally, ANY, BLOCK};
-use reference::{book_refusals, decode, row_faults, RowFault};
+use conformance::{agreed, asked, has_forbidden, has_short_rows, refused, show, spelled};
+use conformance::{Book, Case, Mend, Region, Sheet, Tally, ANY, BLOCK, ROWS_OF_A_BLOCK};
+use reference::{book_refusals, decode, fallen_rows, row_faults, RowFault};
 use std::panic;
 
 /// The agreed answer; a difference is told with the seed and the damage.
@@ -19,6 +19,7 @@ fn answer(seed: u64, case: &Case) -> u64 {
 fn read(book: fitting::Book) -> Book {
     let values = (0..book.columns()).map(|column| book.values(column).len() as u8);
     let sheets = book.sheets().map(|sheet| Sheet {
+        forbidden: sheet.forbids(),
         columns: sheet.columns().to_vec(),
         rows: sheet.rows().map(<[u8]>::to_vec).collect(),
     });
@@ -52,7 +53,7 @@ fn count_places(places: &mut Tally, number: u64, count: usize) {
     let (block, row) = (4 * place / BLOCK, 4 * place % BLOCK / 4);
     match refusal {
         0 => {}
-        5 | 6 => {
+        5..=7 => {
             places.add(&format!("refusal {refusal}, block {block}"), count);
             places.add(&format!("refusal {refusal}, row {row} of a block"), count);
         }
@@ -106,6 +107,82 @@ fn count_near_any(tally: &mut Tally, bytes: &[u8], refusal: u64) {
     }
 }
 
+/// What is counted of a book with forbidden sheets, in words.
+const FORBIDDEN: [&str; 12] = [
+    "accepted",
+    "accepted, and plain sheets with short rows",
+    "accepted, without rows",
+    "accepted, of several blocks",
+    "accepted, some row above the one before by its last value alone",
+    "refusal 5 for 255",
+    "refusal 6 for 255",
+    "refusal 5 or 6, where rows before it don't rise",
+    "refusal 7, the row equals the one before",
+    "refusal 7, the row falls, and its last value rises",
+    "refusal 7, the first row of a block",
+    "refusal 7, in a second sheet too",
+];
+
+fn forbidden(words: &str) -> String {
+    format!("forbidden sheets: {words}")
+}
+
+/// Counts what forbidden sheets do to a book.
+fn count_forbidden(tally: &mut Tally, bytes: &[u8], number: u64) {
+    let (refusal, place) = (number / 65_536, number as usize % 65_536);
+    let mut sorts = [false; FORBIDDEN.len()];
+    if let Some(book) = decode(bytes).filter(has_forbidden) {
+        let some = |such: fn(&Sheet) -> bool| {
+            let mut sheets = book.sheets.iter().filter(|sheet| sheet.forbidden);
+            sheets.any(such)
+        };
+        sorts[0] = true;
+        sorts[1] = has_short_rows(&book);
+        sorts[2] = some(|sheet| sheet.rows.is_empty());
+        sorts[3] = some(|sheet| sheet.rows.len() > ROWS_OF_A_BLOCK);
+        sorts[4] = some(|sheet| {
+            let mut pairs = sheet.rows.windows(2);
+            let last = sheet.columns.len() - 1;
+            last > 0 && pairs.any(|pair| pair[0][..last] == pair[1][..last])
+        });
+    }
+    let faults = row_faults_of(bytes, refusal);
+    if let Some(&(_, at)) = faults.first() {
+        let width = bytes[24 + 8 * sheet_of(bytes, at / BLOCK)];
+        sorts[5] = refusal == 5 && bytes[at] == ANY && width > 128;
+        sorts[6] = refusal == 6 && bytes[at] == ANY && width > 128;
+        let before = fallen_rows(bytes).first().is_some_and(|&row| row < at);
+        sorts[7] = before;
+    }
+    if refusal == 7 {
+        let row = 4 * place;
+        let start = row % BLOCK == 0;
+        let before = if start { row - 8 } else { row - 4 };
+        let [before, falls] = [before, row].map(|at| &bytes[at..at + 4]);
+        let sheet = sheet_of(bytes, row / BLOCK);
+        let last = usize::from(bytes[24 + 8 * sheet]) - 129;
+        sorts[8] = before == falls;
+        sorts[9] = falls < before && falls[last] > before[last];
+        sorts[10] = start;
+        let mut fallen = fallen_rows(bytes).into_iter();
+        sorts[11] = fallen.any(|at| sheet_of(bytes, at / BLOCK) != sheet);
+    }
+    for (words, holds) in FORBIDDEN.iter().zip(sorts) {
+        tally.add(&forbidden(words), holds.into());
+    }
+}
+
+/// The sheet that has this block; the head is right.
+fn sheet_of(bytes: &[u8], block: usize) -> usize {
+    let mut first = 1;
+    let mut sheets = (0..8).map(|s| {
+        let rows = [30, 31].map(|at| bytes[8 * s + at]);
+        first += usize::from(u16::from_le_bytes(rows)).div_ceil(ROWS_OF_A_BLOCK);
+        first
+    });
+    sheets.position(|end| block < end).expect("a sheet")
+}
+
 /// The faults of the rows; none of a book that is not refused for them.
 fn row_faults_of(bytes: &[u8], refusal: u64) -> Vec<RowFault> {
     match refusal {
@@ -136,7 +213,7 @@ fn looked_for() -> [Tally; 2] {
 fn every_number_agrees() {
     let [mut places, mut tally] = looked_for();
     let possible = places.kinds();
-    let mut rows = Tally::default();
+    let [mut rows, mut kinds] = [Tally::default(), Tally::default()];
     let cases = asked("FITTING_CASES", 200_000);
     for seed in 0..cases {
         let case = Case::new(seed);
@@ -149,6 +226,7 @@ fn every_number_agrees() {
             rows.add(&first_faults(faults), 1);
         }
         count_near_any(&mut tally, &case.bytes, refusal);
+        count_forbidden(&mut kinds, &case.bytes, number);
         match case.damaged.as_deref() {
             Some([]) => assert_eq!(refusal, 0, "seed {seed} is a right book"),
             Some([region]) => tally.add(&damage(*region, case.mend == Mend::AtTheEnd), 1),
@@ -156,7 +234,7 @@ fn every_number_agrees() {
         }
     }
     show(&format!(
-        "{cases} seeded inputs, library and reference agree on each\n\n{tally}{rows}"
+        "{cases} seeded inputs, library and reference agree on each\n\n{tally}{rows}{kinds}"
     ));
     tally.assert_each_above(500);
     places.assert_each_above(0);
@@ -164,4 +242,5 @@ fn every_number_agrees() {
     // One alone, or two in three ways; but in one row no value comes after a zero.
     assert_eq!(rows.kinds(), 2 + 4 * 3 - 1);
     rows.assert_each_above(250);
+    kinds.assert_each_above(100);
 }

@@ -3,18 +3,25 @@
 //!
 //! `FITTING_TWINS` asks for more books with a written-out twin than the usual number.
 
-use conformance::kit::{self, read_contents};
-use conformance::{agreed_run, asked, has_short_rows, narrow, one_sheet, show, space_for, twin};
-use conformance::{write, Book, Order, Run, Seen, Tally, ANY, FINISH};
-use reference::decode;
+use conformance::kit::read_contents;
+use conformance::{agreed_run, has_short_rows, narrow, one_sheet, space_for, twin, write};
+use conformance::{Book, Order, Seen, Twins, ANY, FINISH};
 
-/// Both versions give the same for the book and for its twin: the number, and every byte of the space.
-fn twins_agree(book: &Book, orders: &[u8], space: usize, told: &str) -> (u64, Vec<u8>) {
-    let plain = twin(book).expect("a twin within the limits");
-    assert!(!has_short_rows(&plain), "{told}");
-    let [given, of_twin] = [book, &plain].map(|it| agreed_run(&write(it), orders, space));
-    assert!(given == of_twin, "{told}: other answers than its twin's");
-    given
+const TWINS: Twins = Twins {
+    of: "short rows",
+    has: has_short_rows,
+    twin: without_short_rows,
+    counted: ("rows", rows),
+};
+
+fn without_short_rows(book: &Book) -> Option<Book> {
+    let plain = twin(book)?;
+    assert!(!has_short_rows(&plain), "{book:?}");
+    Some(plain)
+}
+
+fn rows(book: &Book) -> usize {
+    book.sheets.iter().map(|sheet| sheet.rows.len()).sum()
 }
 
 /// The last domains after these orders.
@@ -44,7 +51,7 @@ fn any_in_every_set_of_places() {
                 for mask in 0..8 {
                     let orders = [narrow(column, mask), FINISH].concat();
                     let told = format!("{book:?}, narrow {column} {mask}");
-                    twins_agree(&book, &orders, space_for(&orders), &told);
+                    TWINS.agree(&book, &orders, space_for(&orders), &told);
                 }
             }
         }
@@ -94,7 +101,7 @@ fn the_largest_twin() {
         assert_eq!(twin(&book).is_some(), within);
         if within {
             let orders = [narrow(0, 0x00FF), narrow(1, 0x7000), FINISH].concat();
-            twins_agree(&book, &orders, space_for(&orders), "508 rows");
+            TWINS.agree(&book, &orders, space_for(&orders), "508 rows");
         } else {
             assert_eq!(after(&book, &[]), [0xFFFF, u32::MAX >> 1]);
         }
@@ -115,67 +122,18 @@ fn any_board() {
     let book = read_contents(short);
     assert_eq!(twin(&book), Some(conformance::harbour()));
     let orders = conformance::example_orders().concat();
-    twins_agree(&book, &orders, space_for(&orders), "any board");
+    TWINS.agree(&book, &orders, space_for(&orders), "any board");
 }
 
 /// Every accepted book of the kit that has a twin.
 #[test]
 fn twins_of_the_kit() {
-    let mut twins = 0;
-    for vector in kit::vectors() {
-        let Some(book) = decode(&vector.book).filter(has_short_rows) else {
-            continue;
-        };
-        if twin(&book).is_some() {
-            twins_agree(&book, &vector.orders, vector.space(), &vector.name);
-            twins += 1;
-        }
-    }
-    println!("{twins} vectors with short rows and a twin");
-    assert!(twins > 20);
+    TWINS.of_the_kit();
 }
 
 /// "What a buyer sees of an accepted book must equal a book with such rows written out, where that book is
 /// within the limits." Seeded books and lists, finishes among them.
 #[test]
 fn every_twin_agrees() {
-    let twins = asked("FITTING_TWINS", 10_000) as usize;
-    let mut tally = Tally::default();
-    let mut found = 0;
-    for seed in 0.. {
-        let run = Run::new(seed);
-        let Some(book) = decode(&run.book).filter(has_short_rows) else {
-            continue;
-        };
-        let Some(plain) = twin(&book) else {
-            tally.add("books with short rows whose twin is past the limits", 1);
-            continue;
-        };
-        let (number, space) = twins_agree(&book, &run.orders, run.space, &format!("seed {seed}"));
-        let [short, written] = [&book, &plain].map(rows);
-        tally.add("rows of the books", short);
-        tally.add("rows of their twins", written);
-        if number >= 65_536 {
-            tally.add("runs refused alike", 1);
-        } else {
-            let answers = Seen::read_all(&space[..space_for(&run.orders)]);
-            for (words, outcome) in [("found", 1), ("none", 2), ("stopped", 3)] {
-                let finishes = answers.iter().filter(|seen| seen.outcome == outcome);
-                tally.add(&format!("finishes, {words}"), finishes.count());
-            }
-            tally.add("answers", answers.len());
-        }
-        found += 1;
-        if found == twins {
-            break;
-        }
-    }
-    show(&format!(
-        "{twins} books with short rows, each answers as its twin\n\n{tally}"
-    ));
-    tally.assert_each_above(250);
-}
-
-fn rows(book: &Book) -> usize {
-    book.sheets.iter().map(|sheet| sheet.rows.len()).sum()
+    TWINS.seeded(10_000);
 }

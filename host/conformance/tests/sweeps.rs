@@ -1,8 +1,9 @@
 //! Whole ranges of inputs, none left out.
 
 use conformance::{
-    agreed, any_book, harbour, mend, mend_block, refused, regular, row_bytes, show, tiny, write,
-    Book, Random, Region, RowByte, Sheet, Tally, ANY, BLOCK, LONGEST, ROWS_OF_A_BLOCK,
+    agreed, any_book, harbour, mend, mend_block, one_forbidden, refused, regular, rising_rows,
+    row_bytes, show, tiny, write, Book, Random, Region, RowByte, Sheet, Tally, ANY, BLOCK,
+    FORBIDDEN, LONGEST, ROWS_OF_A_BLOCK,
 };
 use reference::book_refusals;
 use std::collections::BTreeSet;
@@ -14,6 +15,7 @@ fn longest_from(width: u8) -> Book {
     let sheets = (0..8).map(|s| {
         let width = (s + width - 1) % 4 + 1;
         Sheet {
+            forbidden: false,
             columns: (0..width).map(|i| s + 2 * i).collect(),
             rows: vec![vec![0; width.into()]; 508],
         }
@@ -43,6 +45,7 @@ fn needing(blocks: usize) -> Book {
     while left > 0 {
         let taken = left.min(4);
         book.sheets.push(Sheet {
+            forbidden: false,
             columns: vec![0],
             rows: vec![vec![0]; taken * ROWS_OF_A_BLOCK],
         });
@@ -176,13 +179,129 @@ fn every_row_byte_at_its_limit() {
             given.insert(number);
         }
     }
-    let refusals = book_refusals().into_iter();
-    let of_rows = refusals.filter(|(refusal, _)| [5, 6].contains(refusal));
+    assert!(given == every_place(&[5, 6]), "every place of 5 and of 6");
+}
+
+/// Each of these refusals with every place that it can have.
+fn every_place(refusals: &[u64]) -> BTreeSet<u64> {
+    let of_rows = book_refusals().into_iter();
+    let of_rows = of_rows.filter(|(refusal, _)| refusals.contains(refusal));
     let numbers = of_rows.flat_map(|(refusal, places)| {
         let places = places.into_iter();
         places.map(move |place| refused(refusal, place))
     });
-    assert!(given.into_iter().eq(numbers), "every place of 5 and of 6");
+    numbers.collect()
+}
+
+/// Forbidden sheets of so many rows, which rise by the last value; of the widths 2, 3 and 4 in turn.
+fn rising(rows: &[usize]) -> Book {
+    let sheet = |(s, &rows): (usize, &usize)| {
+        let width = 2 + s % 3;
+        let row = |r: usize| {
+            let mut row = vec![(s % 2) as u8; width];
+            row[width - 2..].copy_from_slice(&[(r / 32) as u8, (r % 32) as u8]);
+            row
+        };
+        Sheet {
+            forbidden: true,
+            columns: (0..width as u8).map(|i| s as u8 + 2 * i).collect(),
+            rows: (0..rows).map(row).collect(),
+        }
+    };
+    Book {
+        counts: vec![32; 16],
+        sheets: rows.iter().enumerate().map(sheet).collect(),
+    }
+}
+
+/// Every row of every block that has one before it in its sheet, made equal to that one, and lower; and the one before
+/// it made as high as this one: refusal 7 comes with every place that it can have, and no other. The first row of a sheet
+/// may be anything that is lower than the second.
+#[test]
+fn every_row_that_doesnt_rise() {
+    let mut given = BTreeSet::new();
+    // So that the first row of every block but the first is a later one of its sheet in one of these.
+    for rows in [&[508; 8][..], &[300, 508, 508, 508, 508, 508, 508, 508]] {
+        let book = rising(rows);
+        let bytes = write(&book);
+        let figure = agreed(&bytes);
+        assert_eq!(figure, 16 * 16 + 8);
+        for rows in rising_rows(&book) {
+            for (r, &row) in rows.iter().enumerate().skip(1) {
+                let before = rows[r - 1];
+                for (from, to) in [(before, row), (rows[0], row), (row, before)] {
+                    let mut bytes = bytes.clone();
+                    bytes.copy_within(from..from + 4, to);
+                    mend_block(&mut bytes, to / BLOCK);
+                    let number = agreed(&bytes);
+                    assert_eq!(number, refused(7, row / 4), "row {r}, {from} to {to}");
+                    given.insert(number);
+                }
+            }
+        }
+    }
+    assert!(given == every_place(&[7]), "every place of 7");
+}
+
+/// Every row byte of forbidden sheets as any: 5 for a value, 6 for a zero, used or not, at its own place; and so where the
+/// rows don't rise too.
+#[test]
+fn every_byte_of_forbidden_rows_as_any() {
+    let book = rising(&[3, 126, 127, 128, 1]);
+    let mut bytes = write(&book);
+    let mut fallen = bytes.clone();
+    let rows = rising_rows(&book);
+    fallen.copy_within(rows[0][1]..rows[0][1] + 4, rows[0][2]);
+    mend_block(&mut fallen, 1);
+    assert_eq!(agreed(&fallen), refused(7, rows[0][2] / 4));
+    let mut tally = Tally::default();
+    for byte in row_bytes(&book) {
+        assert!(!byte.any && !byte.may_be(ANY));
+        for bytes in [&mut bytes, &mut fallen] {
+            let number = agreed_with(bytes, byte.at, ANY);
+            assert_eq!(number, byte.refused(), "{byte:?}");
+            tally.add(&format!("{:?}", byte.region), 1);
+        }
+    }
+    assert_eq!(tally.kinds(), 3);
+}
+
+/// Every two bytes next to each other in two rows of a forbidden sheet: the first byte that differs decides.
+#[test]
+fn every_pair_of_rows() {
+    let all: Vec<[u8; 4]> = (0..81)
+        .map(|n| [n / 27, n / 9 % 3, n / 3 % 3, n % 3])
+        .collect();
+    let mut bytes = write(&one_forbidden(&[3; 4], vec![vec![0; 4], vec![1; 4]]));
+    for (i, one) in all.iter().enumerate() {
+        for (j, other) in all.iter().enumerate() {
+            bytes[512..520].copy_from_slice(&[*one, *other].concat());
+            mend_block(&mut bytes, 1);
+            let expected = if i < j { 65 } else { refused(7, 129) };
+            assert_eq!(agreed(&bytes), expected, "{one:?}, {other:?}");
+        }
+    }
+}
+
+/// Every width byte of sheets of each width, with the number that it gives: of the same width either kind is right, another
+/// one makes a column number wrong, and any other byte is wrong itself.
+#[test]
+fn every_width_byte() {
+    for width in 1..=4 {
+        let book = one_forbidden(&[2; 4][..width], vec![vec![0; width], vec![1; width]]);
+        let figure = agreed(&write(&book));
+        for byte in 0..=255 {
+            let mut bytes = write(&book);
+            let number = agreed_with(&mut bytes, 24, byte);
+            let expected = match usize::from(byte % FORBIDDEN) {
+                said if !(1..=4).contains(&said) => refused(3, 24),
+                said if said == width => figure,
+                // A number after the width, which must be zero; or a zero in the place of a number.
+                said => refused(3, 25 + said.min(width)),
+            };
+            assert_eq!(number, expected, "width byte {byte} for {width}");
+        }
+    }
 }
 
 /// Of two books that have every row with and without a zero after its values: any passes for a value, and

@@ -1,7 +1,7 @@
 //! The typed run of `fitting` says what the bytes say, and its refusals name what is wrong in them.
 
 use conformance::{
-    any_book, harbour, mend, mend_block, refused, regular, row_bytes, space_for, write,
+    any_book, harbour, mend, mend_block, refused, regular, rising_rows, row_bytes, space_for, write,
 };
 use conformance::{Random, Region, RowByte, Run, Seen, Tally, ANY};
 use fitting::{
@@ -141,6 +141,12 @@ fn seeded_runs_read_alike() {
 fn named_row(book: &conformance::Book, bytes: &[u8]) -> String {
     let rows = row_bytes(book);
     let Some(first) = rows.iter().position(|byte| !byte.may_be(bytes[byte.at])) else {
+        if let Some((sheet, row, at)) = first_fall(book, bytes) {
+            let place = (at / 4) as u16;
+            let refusal = Refusal::Rising { place, sheet, row };
+            assert_eq!(fitting::check(bytes), Err(refusal));
+            return "rows that don't rise".into();
+        }
         assert!(fitting::check(bytes).is_ok());
         let any = rows.iter().any(|byte| bytes[byte.at] == ANY);
         return format!("none, {} any", if any { "with" } else { "without" });
@@ -174,6 +180,17 @@ fn named_row(book: &conformance::Book, bytes: &[u8]) -> String {
     format!("{:?}{}", byte.region, near_any(byte, bytes))
 }
 
+/// The first row of a forbidden sheet that isn't above the one before it: sheet, row, and where it stands.
+fn first_fall(book: &conformance::Book, bytes: &[u8]) -> Option<(u8, u16, usize)> {
+    let sheets = (0..).zip(&book.sheets).filter(|(_, sheet)| sheet.forbidden);
+    let mut sheets = sheets.zip(rising_rows(book));
+    sheets.find_map(|((number, _), rows)| {
+        let falls = |r: usize| bytes[rows[r]..][..4] <= bytes[rows[r - 1]..][..4];
+        let row = (1..rows.len()).find(|&r| falls(r))?;
+        Some((number, row as u16, rows[row]))
+    })
+}
+
 /// Words on 255 in a wrong byte, or before it in its row.
 fn near_any(byte: &RowByte, bytes: &[u8]) -> &'static str {
     let before = &bytes[byte.at / 4 * 4..byte.at];
@@ -186,7 +203,12 @@ fn near_any(byte: &RowByte, bytes: &[u8]) -> &'static str {
 
 #[test]
 fn the_first_wrong_row_is_named() {
-    let regions = [Region::RowValue, Region::RowFiller, Region::UnusedRow];
+    let regions = [
+        Region::RowValue,
+        Region::RowFiller,
+        Region::UnusedRow,
+        Region::RowOrder,
+    ];
     let mut tally = Tally::default();
     for seed in 0..20_000 {
         let random = &mut Random::new(seed);
@@ -203,7 +225,7 @@ fn the_first_wrong_row_is_named() {
         tally.add(&first, 1);
     }
     println!("{tally}");
-    assert_eq!(tally.kinds(), 9);
+    assert_eq!(tally.kinds(), 11);
     tally.assert_each_above(100);
 }
 
@@ -260,6 +282,7 @@ fn every_wrong_field_is_named() {
         }
     }
     println!("{tally}");
-    assert_eq!(tally.kinds(), 4);
-    tally.assert_each_above(10);
+    // The eight sheets of the larger book, each made a forbidden one by its width byte: their rows don't rise.
+    assert_eq!((tally.kinds(), tally.of("refusal 7")), (5, 8));
+    tally.assert_each_above(7);
 }

@@ -26,14 +26,15 @@ fn gather(folder: &Path, prefix: &str, found: &mut Files) {
 }
 
 /// No file differs from what `--bin vectors` would write, none is missing, none is too many; and
-/// the kit is small enough to be sent about.
+/// the kit is small enough to be sent about. Most of it are answers of 72 bytes and rows of text: every request
+/// adds some hundred files, and 2 MiB leave room for those to come.
 #[test]
 fn the_files_are_what_the_reference_makes() {
     let again = "write the kit anew: cargo run --release --offline -p conformance --bin vectors";
     let mut found = Files::new();
     gather(&kit::folder(), "", &mut found);
     let bytes: usize = found.values().map(Vec::len).sum();
-    assert!(bytes < 1024 * 1024, "{bytes} bytes");
+    assert!(bytes < 2 * 1024 * 1024, "{bytes} bytes");
     for name in OTHERS {
         assert!(found.remove(name).is_some(), "{name} is missing");
     }
@@ -90,9 +91,11 @@ fn the_library_and_the_program_agree_with_each() {
 /// With "any board" for motor 0 the harbour book prints document 01's run too. Of rows 0 any and 1 3, the short
 /// one goes with value 0; and any brings no value back that another sheet has struck. A sheet of all four of 2 motors
 /// by 2 boards is done; one of nine pairs but 0 0 is so while one of its columns lacks value 0. H's set takes two tries
-/// at the opening, K7's none takes two: a limit of 1 stops both.
+/// at the opening, K7's none takes two: a limit of 1 stops both. With width 0 and board 0 forbidden in H, board 0 leaves
+/// width 1 alone, and board 1 is in the first set. Of 2 by 2 with 0 0 forbidden, 0 in either column leaves 1 in the other;
+/// of 3 by 3 without 0 0 and 0 1 the sheet is done once 0, or both others, are gone.
 #[rustfmt::skip]
-const EXAMPLES: [(&str, &[&str]); 20] = [
+const EXAMPLES: [(&str, &[&str]); 26] = [
     ("k1-opening", &["0 0 1 0 0 0 7 3 3", "accepted 0"]),
     ("k2-width-4", &["0 0 1 0 0 0 7 3 3", "1 0 2 0 3 0 4 2 2", "accepted 1"]),
     ("k3-board-1", &["0 0 1 0 0 0 7 3 3", "1 0 1 0 3 0 3 1 1", "accepted 1"]),
@@ -145,6 +148,33 @@ const EXAMPLES: [(&str, &[&str]); 20] = [
         "0 0 1 0 0 0 3 3 3", "1 0 1 0 0 3 0 0 0", "2 0 1 0 0 2 0 0 0", "3 0 1 0 0 2 0 0 0", "4 0 1 0 0 2 0 0 0",
         "accepted 4",
     ]),
+    ("forbidden-pair-in-harbour", &[
+        "0 0 1 0 0 0 7 3 3", "1 0 1 1 0 0 7 3 3", "2 0 2 1 7 0 2 1 1", "3 0 2 1 7 1 2 1 1",
+        "4 0 1 0 0 0 7 3 3", "5 24 1 0 0 0 7 3 3", "6 0 1 0 0 1 1 1 2", "7 0 2 0 7 0 4 2 2", "accepted 6",
+    ]),
+    ("forbidden-without-rows", &[
+        "0 0 1 0 1 0 3 7", "1 0 1 0 1 1 1 1", "2 0 1 1 1 0 3 7", "3 0 1 1 1 0 3 5", "4 0 1 1 1 1 1 1", "5 0 1 1 1 0 2 5",
+        "6 0 1 0 1 0 3 7", "7 0 0 0 0 0 0 0", "8 0 0 0 0 2 0 0", "accepted 8",
+    ]),
+    ("forbidden-everything", &[
+        "0 0 0 0 0 0 0 0 0", "1 0 0 0 0 2 0 0 0", "2 0 0 1 0 0 0 0 0", "3 0 0 1 0 0 0 0 0", "4 0 0 0 0 0 0 0 0", "accepted 4",
+    ]),
+    ("forbidden-strike-without-a-cut", &[
+        "0 0 1 0 0 0 3 3", "1 0 1 1 0 0 3 3", "2 0 2 1 1 0 2 1", "3 0 2 1 1 1 2 1", "4 0 1 0 0 0 3 3",
+        "5 0 1 1 0 0 3 3", "6 0 2 1 1 0 1 2", "7 0 2 1 1 1 1 2", "8 0 1 0 0 0 3 3", "9 0 1 1 0 0 3 3",
+        "10 0 1 1 1 0 3 2", "11 0 1 1 1 1 1 2", "12 0 1 0 0 0 3 3", "13 0 1 0 1 0 2 3", "14 0 2 0 1 0 2 1",
+        "accepted 14",
+    ]),
+    ("forbidden-done", &[
+        "0 0 1 0 0 0 7 7", "1 0 1 0 0 1 1 4", "2 0 1 1 0 0 7 7", "3 0 1 1 1 0 6 7", "4 0 1 1 1 1 2 1",
+        "5 0 1 0 0 0 7 7", "6 0 1 1 0 0 7 7", "7 0 1 1 1 0 7 4", "8 0 1 0 0 0 7 7", "9 0 1 1 0 0 7 7",
+        "10 0 1 1 0 0 7 6", "11 0 1 0 0 0 7 7", "12 0 1 1 0 0 7 7", "13 0 1 1 1 0 6 2", "14 0 1 0 0 0 7 7",
+        "15 0 1 0 0 0 3 7", "accepted 15",
+    ]),
+    ("forbidden-three-that-differ", &[
+        "0 0 1 0 0 0 3 3 3", "1 0 1 0 0 3 0 0 0", "2 0 1 0 0 2 0 0 0", "3 0 1 0 0 2 0 0 0", "4 0 0 0 0 0 0 0 0",
+        "5 0 0 0 0 2 0 0 0", "accepted 5",
+    ]),
 ];
 
 #[test]
@@ -162,7 +192,7 @@ fn the_papers_examples() {
 /// value of the first leaves two of the second, and both end dead: three tries, three times. Seven columns of two values
 /// before K7's three: each doubles the tries after it, and adds two.
 #[rustfmt::skip]
-const TRIES: [(&str, &[u16]); 14] = [
+const TRIES: [(&str, &[u16]); 17] = [
     ("paper-run", &[0, 0, 0, 1, 0, 0, 0]),
     ("k6-finish", &[0, 2]),
     ("k7-three-that-differ", &[0, 2]),
@@ -177,6 +207,9 @@ const TRIES: [(&str, &[u16]); 14] = [
     ("limit-65535-enough", &[0, 65_535, 65_535]),
     ("limit-too-large", &[0, 2, 0, 0, 0, 0, 0, 2]),
     ("limits-that-rise", &[0, 1, 2, 3, 4, 5, 6, 7, 8, 9, 9, 9]),
+    ("forbidden-pair-in-harbour", &[0, 0, 0, 0, 0, 0, 1, 0]),
+    ("forbidden-three-that-differ", &[0, 1, 2, 2, 0, 0]),
+    ("forbidden-four-of-three-values", &[0, 1, 8, 9, 9, 9, 0, 0, 1, 2, 0]),
 ];
 
 #[test]

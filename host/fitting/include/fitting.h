@@ -18,13 +18,18 @@ extern "C" {
  */
 
 /*
- * Checks a book, and writes nothing. Accepted: columns * 16 + sheets. Refused: 1 to 6.
+ * Checks a book, and writes nothing. Accepted: columns * 16 + sheets. Refused: 1 to 7.
  *
  * The place of 5, a row value that is too large, and of 6, a byte of a row that must be zero and isn't, is
  * the offset of the first such byte in the book, divided by 4. A row has 4 bytes, so this is a row: row
  * place % 128 of block place / 128, both counted from 0. Block 0 is the head; after it each sheet in turn
  * has its blocks, with 127 rows in each. 255 in the place of a value is not too large: it stands for all
  * values of its column.
+ *
+ * A sheet whose width byte has FITTING_FORBIDDEN added, 129 to 132 for a width of 1 to 4, is a forbidden one:
+ * it allows what isn't among its rows. These rise strictly, compared byte by byte with memcmp, and 255 is too
+ * large there. The place of 7, rows that don't rise, is that of the first row which is not above the one
+ * before it in its sheet; it is given only where no byte of a row is wrong.
  */
 uint64_t fitting_check(const uint8_t *book, size_t book_len);
 
@@ -73,6 +78,9 @@ uint64_t fitting_run(const uint8_t *book, size_t book_len, const uint8_t *orders
 
 /* The bytes that the answers to so many orders need. */
 #define FITTING_SPACE(orders) (72 * ((size_t)(orders) + 1))
+
+/* What is added to the width byte of a forbidden sheet. */
+#define FITTING_FORBIDDEN 128
 
 /* What byte 3 says of an accepted finish. */
 #define FITTING_FOUND 1

@@ -79,6 +79,7 @@ impl<'a> Book<'a> {
         let bytes = self.bytes;
         self.head().sheets().map(|entry| Sheet {
             columns: entry.columns(),
+            forbids: entry.forbids(),
             blocks: entry.part_of(bytes),
             rows: entry.rows().into(),
         })
@@ -106,13 +107,15 @@ impl fmt::Debug for Book<'_> {
     }
 }
 
-/// A sheet of an accepted book: the columns it speaks of, and the rows of values that go together.
+/// A sheet of an accepted book: the columns it speaks of, and the rows of values that go together; or, where it
+/// [forbids](Self::forbids), of values that clash.
 ///
-/// Two are equal when they have the same columns, and the same rows in the same order. A short row is not
-/// equal to the rows that it stands for.
+/// Two are equal when they are of one kind and have the same columns, and the same rows in the same order. A
+/// short row is not equal to the rows that it stands for, nor a forbidden sheet to one that allows the same.
 #[derive(Clone, Copy)]
 pub struct Sheet<'a> {
     columns: &'a [u8],
+    forbids: bool,
     /// The blocks of this sheet, and those after them.
     blocks: &'a [u8],
     rows: usize,
@@ -124,10 +127,30 @@ impl<'a> Sheet<'a> {
         self.columns
     }
 
-    /// The rows in the order of the book, 0 to 508 of them. Rows may repeat.
+    /// Whether it is a forbidden sheet: "There a combination is allowed when it isn't a row, and no rows
+    /// forbid nothing." In any other, one is allowed when a row matches it.
+    ///
+    /// ```
+    /// # let mut harbour = conformance::harbour();
+    /// # harbour.sheets[1].forbidden = true;
+    /// # harbour.sheets[1].rows = vec![vec![1, 0]];
+    /// # let bytes = conformance::write(&harbour);
+    /// // The harbour book with one pair that clashes in place of the three that go together.
+    /// let book = fitting::check(&bytes)?;
+    /// let sheet = book.sheet(1).unwrap();
+    /// assert!(sheet.forbids() && !book.sheet(0).unwrap().forbids());
+    /// assert_eq!(sheet.columns(), [1, 2]);
+    /// assert_eq!(sheet.rows().collect::<Vec<_>>(), [[1, 0]]); // motor 1 with board 0
+    /// # Ok::<(), fitting::Refusal>(())
+    /// ```
+    pub fn forbids(&self) -> bool {
+        self.forbids
+    }
+
+    /// The rows in the order of the book, 0 to 508 of them. Those of a forbidden sheet rise; others may repeat.
     ///
     /// A row has one byte for each of the sheet's columns, in their order: a value, or 255, which "stands
-    /// for all its values". [`Cell`](crate::Cell) tells them apart.
+    /// for all its values". [`Cell`](crate::Cell) tells them apart. A forbidden sheet has no 255.
     pub fn rows(
         &self,
     ) -> impl ExactSizeIterator<Item = &'a [u8]> + DoubleEndedIterator + Clone + 'a {
@@ -147,7 +170,8 @@ impl<'a> Sheet<'a> {
 
 impl PartialEq for Sheet<'_> {
     fn eq(&self, other: &Self) -> bool {
-        self.columns == other.columns && self.rows().eq(other.rows())
+        let kinds = self.forbids == other.forbids;
+        kinds && self.columns == other.columns && self.rows().eq(other.rows())
     }
 }
 
@@ -155,6 +179,7 @@ impl Eq for Sheet<'_> {}
 
 impl Hash for Sheet<'_> {
     fn hash<H: Hasher>(&self, state: &mut H) {
+        self.forbids.hash(state);
         self.columns.hash(state);
         self.rows().for_each(|row| row.hash(state));
     }
@@ -164,6 +189,7 @@ impl fmt::Debug for Sheet<'_> {
     fn fmt(&self, f: &mut fmt::Formatter<'_>) -> fmt::Result {
         f.debug_struct("Sheet")
             .field("columns", &self.columns)
+            .field("forbids", &self.forbids)
             .field("rows", &self.rows)
             .finish()
     }

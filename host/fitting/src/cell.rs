@@ -4,7 +4,8 @@ use crate::Values;
 
 /// A cell of a row: what stands there for one of its sheet's columns.
 ///
-/// "Row byte 255 in a used column stands for all its values." A row that has such a cell is a *short row*.
+/// "Row byte 255 in a used column stands for all its values." A row that has such a cell is a *short row*; a
+/// forbidden sheet has none.
 /// [`Sheet::rows`](crate::Sheet::rows) gives bytes, and a cell is made of each:
 ///
 /// ```
@@ -59,11 +60,11 @@ impl Cell {
     }
 
     /// Whether it may stand in a column of so many values: "each below its column's V", and "Refusal 5 lets
-    /// 255 pass."
-    pub(crate) fn is_right(self, count: u8) -> bool {
+    /// 255 pass", but of a sheet that forbids "255 is refused with 5".
+    pub(crate) fn is_right(self, count: u8, forbids: bool) -> bool {
         match self {
             Self::Value(value) => value < count,
-            Self::Any => true,
+            Self::Any => !forbids,
         }
     }
 }

@@ -71,7 +71,7 @@ fn in_entry(head: Head, number: usize, at: usize) -> Option<(FieldName, Rule)> {
         return Some((FieldName::EntryByte { sheet, byte }, rule));
     };
     Some(match at {
-        WIDTH => (FieldName::Width { sheet }, Rule::Within(1, 4)),
+        WIDTH => (FieldName::Width { sheet }, Rule::Width),
         NUMBERS..ENTRY_ZERO => {
             let index = (at - NUMBERS) as u8;
             let rule = number_rule(entry, index.into(), head.columns());

@@ -17,7 +17,7 @@ pub enum FieldName {
         /// The column.
         column: u8,
     },
-    /// Byte 0 of a sheet's entry: the width.
+    /// Byte 0 of a sheet's entry: the width, plus 128 for a forbidden sheet.
     Width {
         /// The sheet.
         sheet: u8,

@@ -20,7 +20,7 @@ pub(crate) const ROWS: usize = 6;
 
 pub(crate) const ENTRY: usize = 8;
 const BLOCK: usize = 512;
-const ROW: usize = 4;
+pub(crate) const ROW: usize = 4;
 
 /// A block has 127 rows and its check, which is as long as a row: 128 places.
 pub(crate) const ROWS_OF_A_BLOCK: usize = CHECK / ROW;
@@ -83,9 +83,17 @@ pub(crate) struct Entry<'a> {
 }
 
 impl<'a> Entry<'a> {
-    /// The width, k.
+    /// The width, k, without what marks a forbidden sheet.
     pub(crate) fn width(self) -> u8 {
-        self.bytes[WIDTH]
+        match self.bytes[WIDTH] {
+            marked if self.forbids() => marked - 128,
+            width => width,
+        }
+    }
+
+    /// "Width byte 129 to 132 marks a forbidden sheet of width 1 to 4."
+    pub(crate) fn forbids(self) -> bool {
+        matches!(self.bytes[WIDTH], 129..=132)
     }
 
     /// The k column numbers, four at most, as there is room for four.

@@ -1,7 +1,7 @@
 //! Why a book, or a run, is refused, and where.
 
 use crate::layout::{row_at, Head};
-use crate::{Field, RowPlace};
+use crate::{Cell, Field, RowPlace};
 use core::error::Error;
 use core::fmt;
 
@@ -43,8 +43,8 @@ pub enum Refusal {
         /// The number of blocks that the book needs by its head.
         needed: u16,
     },
-    /// 5: a value in a row is too large; 255 is not, as it stands for all values of its column. Nothing is
-    /// wrong in the rows before it.
+    /// 5: a value in a row is too large; 255 is not, as it stands for all values of its column, but in a
+    /// forbidden sheet it is. Nothing is wrong in the rows before it.
     Value {
         /// The place of the row in the book, as [`RowPlace`] has it.
         place: u16,
@@ -70,6 +70,16 @@ pub enum Refusal {
         /// Whether it is one of the sheet's rows, so that the byte stands after its values; in an unused
         /// row every byte must be zero.
         used: bool,
+    },
+    /// 7: a row of a forbidden sheet isn't above the one before it, by their bytes, the first byte first. All
+    /// rows before it rise, and no byte of a row is wrong.
+    Rising {
+        /// The place of the row in the book, as [`RowPlace`] has it.
+        place: u16,
+        /// The sheet, counted from 0.
+        sheet: u8,
+        /// The row of that sheet, counted from 0; it is never row 0.
+        row: u16,
     },
     /// 10: the orders aren't a multiple of 8 bytes, or more than 256 of them.
     Orders,
@@ -102,6 +112,7 @@ impl Refusal {
             (4, needed) => Some(Self::Blocks { needed }),
             (5, place) => Self::large_value(place, book),
             (6, place) => Self::wrong_filler(place, book),
+            (7, place) => Self::not_rising(place, book),
             (10, 0) => Some(Self::Orders),
             (11, needed) => Some(Self::Space { needed }),
             _ => None,
@@ -134,7 +145,17 @@ impl Refusal {
         })
     }
 
-    /// The refusal number: 1 to 6 for a book, and 10 or 11 too for a run.
+    /// Refusal 7, if the row at this place does not rise.
+    fn not_rising(place: u16, book: &[u8]) -> Option<Self> {
+        let at = RowPlace::of(book, place)?;
+        (!at.rises).then_some(Self::Rising {
+            place,
+            sheet: at.sheet,
+            row: at.row,
+        })
+    }
+
+    /// The refusal number: 1 to 7 for a book, and 10 or 11 too for a run.
     pub const fn number(&self) -> u64 {
         self.number_and_place().0
     }
@@ -153,6 +174,7 @@ impl Refusal {
             Self::Blocks { needed } => (4, needed),
             Self::Value { place, .. } => (5, place),
             Self::Filler { place, .. } => (6, place),
+            Self::Rising { place, .. } => (7, place),
             Self::Orders => (10, 0),
             Self::Space { needed } => (11, needed),
             Self::Other { number, place } => (number, place),
@@ -175,11 +197,13 @@ impl fmt::Display for Refusal {
                 value,
                 count,
                 ..
-            } => write!(
-                f,
-                "sheet {sheet}, row {row}, column {column}: \
-                 value {value} is not below its V, {count}"
-            ),
+            } => {
+                write!(f, "sheet {sheet}, row {row}, column {column}: ")?;
+                match Cell::from(*value) {
+                    Cell::Value(value) => write!(f, "value {value} is not below its V, {count}"),
+                    Cell::Any => write!(f, "a forbidden sheet may not have 255"),
+                }
+            }
             Self::Filler {
                 sheet, row, used, ..
             } => {
@@ -190,6 +214,11 @@ impl fmt::Display for Refusal {
                 };
                 write!(f, "sheet {sheet}, row {row}{what} is not zero")
             }
+            Self::Rising { sheet, row, .. } => write!(
+                f,
+                "sheet {sheet}, row {row}: it is not above row {}, and rows of a forbidden sheet rise",
+                row.saturating_sub(1)
+            ),
             Self::Orders => write!(
                 f,
                 "the orders aren't a multiple of 8 bytes or exceed 2,048 bytes"

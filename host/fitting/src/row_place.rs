@@ -1,12 +1,12 @@
-//! From the place of refusal 5 or 6 to the sheet, the row and the column.
+//! From the place of refusal 5, 6 or 7 to the sheet, the row and the column.
 
-use crate::layout::{row_at, Entry, Head, PLACES_OF_A_BLOCK, ROWS_OF_A_BLOCK};
+use crate::layout::{cells, row_at, Entry, Head, PLACES_OF_A_BLOCK, ROW, ROWS_OF_A_BLOCK};
 use crate::Cell;
 
-/// What the place of refusal 5 or 6 tells: a row, and which byte of it is wrong.
+/// What the place of refusal 5, 6 or 7 tells: a row, and which byte of it is wrong, or that it does not rise.
 ///
-/// The place is the offset of the first wrong byte in the whole book, divided by 4 and rounded down. A
-/// row has 4 bytes, so a place is a row; and a block has 128 of them:
+/// The place is the offset of the first wrong byte in the whole book, or of the first row that does not rise,
+/// divided by 4 and rounded down. A row has 4 bytes, so a place is a row; and a block has 128 of them:
 ///
 /// ```text
 /// place   128 × block   + 1     …   + 126     + 127
@@ -44,6 +44,9 @@ pub struct RowPlace {
     pub byte: Option<u8>,
     /// The column whose value that byte is; `None` if it is none and must be zero.
     pub column: Option<u8>,
+    /// Whether it is above the row before it in its sheet, by their bytes, the first byte first. Only the n
+    /// rows of a forbidden sheet have to rise; for others this is true.
+    pub rises: bool,
 }
 
 impl RowPlace {
@@ -58,7 +61,7 @@ impl RowPlace {
         let column = |byte: u8| columns.get(usize::from(byte)).copied();
         // "k values, each below its column's V, then zeros. Unused rows are zero."
         let right = |byte, found| match column(byte) {
-            Some(column) => Cell::from(found).is_right(head.count(column)),
+            Some(column) => Cell::from(found).is_right(head.count(column), entry.forbids()),
             None => found == 0,
         };
         let byte = (0..4).find(|&byte| !right(byte, bytes[usize::from(byte)]));
@@ -68,8 +71,16 @@ impl RowPlace {
             used,
             byte,
             column: byte.and_then(column),
+            rises: !used || !entry.forbids() || is_above(entry.part_of(book), row, bytes),
         })
     }
+}
+
+/// Whether these bytes of a row are above those of the one before it in the blocks of its sheet, if there is one.
+fn is_above(blocks: &[u8], row: u16, bytes: &[u8; ROW]) -> bool {
+    let before = row.checked_sub(1);
+    let before = before.and_then(|before| cells(blocks, before.into(), ROW));
+    before < Some(bytes)
 }
 
 /// The sheet in whose blocks the place lies, and the row of it.

@@ -8,6 +8,8 @@ pub(crate) enum Rule {
     Letters,
     /// From the first number to the second.
     Within(u8, u16),
+    /// A width, as it is or with what marks a forbidden sheet.
+    Width,
     /// A column number is below C.
     BelowColumns(u8),
     /// A column number is above the one before.
@@ -28,6 +30,7 @@ impl Rule {
         match self {
             Self::Letters => found.to_le_bytes() == *b"FGB1",
             Self::Within(least, most) => (least.into()..=most.into()).contains(&found),
+            Self::Width => matches!(found, 1..=4 | 129..=132),
             Self::BelowColumns(columns) => found < columns.into(),
             Self::Above(before) => found > before.into(),
             Self::Zero | Self::NoColumn(_) | Self::NoNumber(_) | Self::NoSheet(_) => found == 0,
@@ -40,6 +43,7 @@ impl fmt::Display for Rule {
         match self {
             Self::Letters => write!(f, "FGB1"),
             Self::Within(least, most) => write!(f, "{least} to {most}"),
+            Self::Width => write!(f, "1 to 4 or 129 to 132"),
             Self::BelowColumns(columns) => write!(f, "below C, {columns}"),
             Self::Above(before) => write!(f, "above {before}"),
             Self::Zero => write!(f, "zero"),

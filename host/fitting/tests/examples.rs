@@ -49,21 +49,31 @@ fn checks() {
     says(&check, "", "", 2);
 }
 
-/// The harbour book with a byte changed: in a sheet's entry, in a value, after the values, in an unused row.
+/// The harbour book with a byte changed: in a sheet's entry, in a value, after the values, in an unused row. Then with
+/// sheet 0 forbidden, and a row that repeats, or a 255.
 #[test]
 fn checks_of_damaged_books() {
     let folder = env!("CARGO_TARGET_TMPDIR");
-    let changes = [(25, 1), (525, 7), (1026, 1), (1036, 1)];
-    for (number, change) in changes.into_iter().enumerate() {
+    let changes = [
+        &[(25, 1)][..],
+        &[(525, 7)],
+        &[(1026, 1)],
+        &[(1036, 1)],
+        &[(24, 130), (521, 0)],
+        &[(24, 130), (525, 255)],
+    ];
+    for (number, changes) in changes.into_iter().enumerate() {
         let file = Path::new(folder).join(format!("{number}.bin"));
-        fs::write(file, changed(&harbour(), &[change])).unwrap();
+        fs::write(file, changed(&harbour(), changes)).unwrap();
     }
     let lines = "\
         0.bin: 196634, refusal 3: sheet 0's second column number, 1, is not above 1\n\
         1.bin: 327811, refusal 5: sheet 0, row 3, column 1: value 7 is not below its V, 2\n\
         2.bin: 393472, refusal 6: sheet 1, row 0: a byte after its values is not zero\n\
-        3.bin: 393475, refusal 6: sheet 1, row 3, which is unused: a byte is not zero\n";
-    let mut check = command(&example("check"), "0.bin 1.bin 2.bin 3.bin");
+        3.bin: 393475, refusal 6: sheet 1, row 3, which is unused: a byte is not zero\n\
+        4.bin: 458882, refusal 7: sheet 0, row 2: it is not above row 1, and rows of a forbidden sheet rise\n\
+        5.bin: 327811, refusal 5: sheet 0, row 3, column 1: a forbidden sheet may not have 255\n";
+    let mut check = command(&example("check"), "0.bin 1.bin 2.bin 3.bin 4.bin 5.bin");
     tells(check.current_dir(folder), lines, 1);
 }
 

@@ -38,8 +38,11 @@ fn fields_of_a_byte() {
         10 33 column 2's V, 33, is not 1 to 32
         11 1 column 3's V, 1, is not zero, though C is 3
         23 255 column 15's V, 255, is not zero, though C is 3
-        24 0 sheet 0's width, 0, is not 1 to 4
-        32 5 sheet 1's width, 5, is not 1 to 4
+        24 0 sheet 0's width, 0, is not 1 to 4 or 129 to 132
+        32 5 sheet 1's width, 5, is not 1 to 4 or 129 to 132
+        24 128 sheet 0's width, 128, is not 1 to 4 or 129 to 132
+        32 133 sheet 1's width, 133, is not 1 to 4 or 129 to 132
+        32 255 sheet 1's width, 255, is not 1 to 4 or 129 to 132
         25 3 sheet 0's first column number, 3, is not below C, 3
         26 3 sheet 0's second column number, 3, is not below C, 3
         26 0 sheet 0's second column number, 0, is not above 0
@@ -65,7 +68,8 @@ fn fields_of_a_byte() {
 fn fields_that_another_makes_wrong() {
     refused(&[(4, 4)], 11, "column 3's V, 0, is not 1 to 32");
     refused(&[(4, 2)], 10, "column 2's V, 2, is not zero, though C is 2");
-    refused(&[(5, 3)], 40, "sheet 2's width, 0, is not 1 to 4");
+    let no_width = "sheet 2's width, 0, is not 1 to 4 or 129 to 132";
+    refused(&[(5, 3)], 40, no_width);
     let no_sheet = "byte 0 of sheet 1's entry, 2, is not zero, though S is 1";
     refused(&[(5, 1)], 32, no_sheet);
     let not_above = "sheet 0's second column number, 1, is not above 1";
@@ -74,6 +78,9 @@ fn fields_that_another_makes_wrong() {
     refused(&[(24, 1)], 26, no_number);
     let zero = "sheet 0's third column number, 0, is not above 1";
     refused(&[(24, 3)], 27, zero);
+    // A forbidden sheet has its width without the mark.
+    refused(&[(24, 129)], 26, no_number);
+    refused(&[(24, 131)], 27, zero);
 }
 
 /// Two bytes, and the place is the lower one's.
@@ -110,7 +117,15 @@ fn a_field_has_a_name_and_what_stands_there() {
 #[test]
 fn right_fields() {
     let largest = regular(16, 32, 8, 508, 4);
-    for book in [tiny(), harbour(), regular(16, 1, 8, 0, 1), largest] {
+    let books = [tiny(), harbour(), regular(16, 1, 8, 0, 1), largest];
+    // Forbidden sheets of every width; without rows none has to rise.
+    let forbidden = (1..=4).map(|width| {
+        let mut book = regular(4, 32, 8, 0, width);
+        let sheets = book.sheets.iter_mut();
+        sheets.for_each(|sheet| sheet.forbidden = true);
+        book
+    });
+    for book in books.into_iter().chain(forbidden) {
         let bytes = write(&book);
         assert!(check(&bytes).is_ok());
         for place in 0..=65_535 {

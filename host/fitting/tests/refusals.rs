@@ -37,17 +37,24 @@ fn every_refusal_has_its_name_and_its_sentence() {
 /// A number is read with the bytes that it was given for; with any others it has no name.
 #[test]
 fn numbers_that_do_not_fit_the_bytes() {
-    let wrong = [(8, 99), (512, 9), (514, 9)].map(|change| changed(&harbour(), &[change]));
-    let numbers = [8, 128, 128].into_iter().zip([3, 5, 6]);
+    let wrong = [
+        &[(8, 99)][..],
+        &[(512, 9)],
+        &[(514, 9)],
+        &[(24, 130), (516, 0)],
+    ];
+    let wrong = wrong.map(|changes| changed(&harbour(), changes));
+    let numbers = [8, 128, 128, 129].into_iter().zip([3, 5, 6, 7]);
     for ((place, number), bytes) in numbers.zip(&wrong) {
         let given = number << 16 | u64::from(place);
         assert_eq!(check_number(bytes), given);
         let whole = write(&harbour());
-        let [field, value, filler] = &wrong;
+        let [field, value, filler, rising] = &wrong;
         for bytes in [
             field,
             value,
             filler,
+            rising,
             &whole,
             &bytes[..511],
             &value[..512],
@@ -65,7 +72,7 @@ fn any_number_with_any_bytes() {
     let mut seeded = vec![0; 40_000];
     Random::new(1).fill(&mut seeded);
     for bytes in [seeded, vec![0; 600], vec![1; 5_000], vec![255; 300_000]] {
-        for (number, place) in [3, 5, 6]
+        for (number, place) in [3, 5, 6, 7]
             .into_iter()
             .flat_map(|n| (0..=65_535).map(move |p| (n, p)))
         {

@@ -1,4 +1,4 @@
-//! Refusals 5 and 6: from the place to the row, and what is wrong there.
+//! Refusals 5, 6 and 7: from the place to the row, and what is wrong there.
 
 use conformance::{changed, harbour, regular, write, Book, Sheet};
 use fitting::{check, Refusal, RowPlace};
@@ -7,6 +7,7 @@ use fitting::{check, Refusal, RowPlace};
 /// are 2, 3 and 4.
 fn three_sheets() -> Book {
     let sheet = |columns: &[u8], rows| Sheet {
+        forbidden: false,
         columns: columns.to_vec(),
         rows: vec![vec![0; columns.len()]; rows],
     };
@@ -137,6 +138,98 @@ fn any_where_there_is_no_column() {
     }
 }
 
+/// The same three sheets as forbidden ones, of 3, 0 and 130 rows that rise; the V are 2, 3 and 32.
+fn three_forbidden(changes: &[(usize, u8)]) -> Vec<u8> {
+    let mut book = three_sheets();
+    book.counts[2] = 32;
+    book.sheets[0].rows = (0..3).map(|value| vec![value]).collect();
+    let row = |n: u8| vec![n / 96, n / 32 % 3, n % 32];
+    book.sheets[2].rows = (0..130).map(row).collect();
+    let sheets = book.sheets.iter_mut();
+    sheets.for_each(|sheet| sheet.forbidden = true);
+    changed(&book, changes)
+}
+
+/// "the first row not above the one before it in its sheet": it may repeat it, or be below it, and the one before
+/// may stand in the block before.
+#[test]
+fn rows_that_do_not_rise() {
+    assert_eq!(
+        check(&three_forbidden(&[])).map(|book| book.columns()),
+        Ok(3)
+    );
+    for (changes, place, sheet, row) in [
+        (&[(516, 0)][..], 129, 0, 1),
+        (&[(512, 2)], 129, 0, 1),
+        (&[(512, 1), (516, 2)], 130, 0, 2),
+        (&[(1030, 0)], 257, 2, 1),
+        (&[(1024, 1)], 257, 2, 1),
+        // The last row of a block, the first of the next, and the last of the sheet.
+        (&[(1024 + 4 * 126 + 2, 29)], 256 + 126, 2, 126),
+        (&[(1538, 30)], 384, 2, 127),
+        (&[(1537, 0), (1538, 0)], 384, 2, 127),
+        (&[(1546, 0)], 386, 2, 129),
+        // Of two the first.
+        (&[(1546, 0), (1538, 30)], 384, 2, 127),
+        (&[(1546, 0), (516, 0)], 129, 0, 1),
+    ] {
+        let bytes = three_forbidden(changes);
+        let refusal = check(&bytes).unwrap_err();
+        assert_eq!(refusal, Refusal::Rising { place, sheet, row });
+        let before = row - 1;
+        let sentence = format!(
+            "refusal 7: sheet {sheet}, row {row}: it is not above row {before}, \
+             and rows of a forbidden sheet rise"
+        );
+        assert_eq!(refusal.to_string(), sentence);
+        let at = RowPlace::of(&bytes, place).expect("a row");
+        assert_eq!(
+            (at.sheet, at.row, at.used, at.byte),
+            (sheet, row, true, None)
+        );
+        assert!(!at.rises);
+    }
+}
+
+/// "after 5 and 6": where a byte is wrong anywhere, rows that don't rise are not named. And only a forbidden sheet's
+/// rows have to.
+#[test]
+fn rows_that_need_not_rise() {
+    let large = "refusal 5: sheet 2, row 129, column 2: value 32 is not below its V, 32";
+    let filler = "refusal 6: sheet 2, row 130, which is unused: a byte is not zero";
+    for (at, value, sentence) in [(1546, 32, large), (1550, 1, filler)] {
+        let refusal = check(&three_forbidden(&[(516, 0), (at, value)])).unwrap_err();
+        assert_eq!(refusal.to_string(), sentence);
+    }
+    let plain = three_forbidden(&[(24, 1), (516, 0), (512, 2)]);
+    assert!(check(&plain).is_ok());
+    assert!((128..512).all(|place| RowPlace::of(&plain, place).is_none_or(|at| at.rises)));
+}
+
+/// "255 is refused with 5", in a forbidden sheet; after the values it is filler there too.
+#[test]
+fn any_in_a_forbidden_sheet() {
+    for (at, sheet, row, column) in [
+        (512, 0, 0, 1),
+        (520, 0, 2, 1),
+        (1025, 2, 0, 1),
+        (1538, 2, 127, 2),
+        (1546, 2, 129, 2),
+    ] {
+        let refusal = check(&three_forbidden(&[(at, 255)])).unwrap_err();
+        assert_eq!(
+            (refusal.number(), usize::from(refusal.place())),
+            (5, at / 4)
+        );
+        let place = format!("sheet {sheet}, row {row}, column {column}");
+        let sentence = format!("refusal 5: {place}: a forbidden sheet may not have 255");
+        assert_eq!(refusal.to_string(), sentence);
+    }
+    let refusal = check(&three_forbidden(&[(1027, 255)])).unwrap_err();
+    let filler = "refusal 6: sheet 2, row 0: a byte after its values is not zero";
+    assert_eq!(refusal.to_string(), filler);
+}
+
 /// Every place that there is, in the book and after it: the rows come in turn, and the rest is none.
 #[test]
 fn every_place_is_a_row_or_none() {
@@ -151,7 +244,7 @@ fn every_place_is_a_row_or_none() {
                 let place = next().flatten().expect("a row");
                 assert_eq!((place.sheet.into(), place.row.into()), (sheet, row));
                 assert_eq!(place.used, row < rows.len());
-                assert_eq!((place.byte, place.column), (None, None));
+                assert_eq!((place.byte, place.column, place.rises), (None, None, true));
                 // After the last row of a block comes its check.
                 assert!(row % 127 < 126 || next() == Some(None));
             }

@@ -1,7 +1,7 @@
 //! The typed run: a list in, answers out. That the answers say what the bytes say is compared by
 //! `conformance/tests/typed.rs`, on seeded runs.
 
-use conformance::{harbour, tiny, write, Book, Sheet, WIDTH};
+use conformance::{harbour, tiny, write, Book, Sheet, BOARD, MOTOR, WIDTH};
 use fitting::{
     check, run, space_for, Answer, Order, OrderList, OrderRefusal, Outcome, Refusal, Space, Values,
 };
@@ -70,6 +70,52 @@ fn answers_show_themselves() -> Result<(), Refusal> {
     Ok(())
 }
 
+/// The harbour book with a forbidden sheet 1 of these rows.
+fn forbidding(rows: &[[u8; 2]]) -> Vec<u8> {
+    let mut book = harbour();
+    book.sheets[1].forbidden = true;
+    book.sheets[1].rows = rows.iter().map(|row| row.to_vec()).collect();
+    write(&book)
+}
+
+/// The rows of sheet 1 say that motor 1 doesn't go with board 0. Said so, in a forbidden sheet of one row, the book allows
+/// the same, and every answer is the same.
+#[test]
+fn a_forbidden_pair() -> Result<(), Refusal> {
+    let mut list = OrderList::new();
+    list.finish()?.mark()?.narrow(BOARD, Values::from_mask(1))?;
+    list.finish()?
+        .back(1)?
+        .narrow(WIDTH, Values::from_mask(4))?;
+    list.narrow(MOTOR, Values::from_mask(1))?.finish()?;
+    let [plain, forbidden] = [write(&harbour()), forbidding(&[[1, 0]])];
+    let [mut one, mut other] = [Space::new(), Space::new()];
+    let expected = check(&plain)?.run(&list, &mut one);
+    assert_eq!(check(&forbidden)?.run(&list, &mut other), expected);
+    Ok(())
+}
+
+/// "no rows forbid nothing": then the sheet is done at the opening. With every combination forbidden the book allows
+/// nothing.
+#[test]
+fn forbidden_sheets_of_no_rows_and_of_all() -> Result<(), Refusal> {
+    let all = [[0, 0], [0, 1], [1, 0], [1, 1]];
+    for (rows, done, domains) in [
+        (0, [false, true], [7, 3, 3]),
+        (1, [false; 2], [7, 3, 3]),
+        (2, [true; 2], [6, 2, 3]),
+        (3, [true; 2], [6, 2, 2]),
+        (4, [false; 2], [0; 3]),
+    ] {
+        let bytes = forbidding(&all[..rows]);
+        let mut space = Space::new();
+        let opening = check(&bytes)?.run(&OrderList::new(), &mut space).opening();
+        assert!(opening.domains().map(Values::mask).eq(domains), "{rows}");
+        assert_eq!([0, 1].map(|sheet| opening.is_done(sheet)), done, "{rows}");
+    }
+    Ok(())
+}
+
 /// What a finish says: its outcome, its tries and its full set.
 type Said = (Option<Outcome>, Option<u16>, Option<Vec<u8>>);
 
@@ -106,6 +152,7 @@ fn a_finish_within_its_limit() {
 #[test]
 fn none_within_its_limit() {
     let pair = |columns: [u8; 2]| Sheet {
+        forbidden: false,
         columns: columns.to_vec(),
         rows: vec![vec![0, 1], vec![1, 0]],
     };

@@ -1,7 +1,7 @@
 //! The view of an accepted book. That it shows what the bytes say is compared by
 //! `conformance/tests/seeded.rs`, on seeded books.
 
-use conformance::{harbour, regular, write};
+use conformance::{changed, harbour, regular, write};
 use fitting::{check, Cell, Values};
 use std::collections::HashSet;
 
@@ -59,6 +59,25 @@ fn short_rows() {
     assert_ne!(sheet, plain);
 }
 
+/// A forbidden sheet has its columns and its rows like any other; only what they mean is different.
+#[test]
+fn forbidden_sheets() {
+    let plain = write(&harbour());
+    let plain = check(&plain).unwrap();
+    assert!(plain.sheets().all(|sheet| !sheet.forbids()));
+    let bytes = changed(&harbour(), &[(24, 130)]);
+    let [sheet, other] = [0, 1].map(|number| check(&bytes).unwrap().sheet(number).unwrap());
+    assert!(sheet.forbids() && !other.forbids());
+    let [same, same_other] = [0, 1].map(|number| plain.sheet(number).unwrap());
+    assert_eq!(sheet.columns(), same.columns());
+    assert!(sheet.rows().eq(same.rows()));
+    assert_ne!(sheet, same);
+    assert_eq!(other, same_other);
+    assert_eq!(HashSet::from([sheet, same, other, same_other]).len(), 3);
+    let shown = "Sheet { columns: [0, 1], forbids: true, rows: 4 }";
+    assert_eq!(format!("{sheet:?}"), shown);
+}
+
 #[test]
 fn what_a_cell_matches() {
     let some = Values::of([0, 31]).unwrap();
@@ -96,7 +115,9 @@ fn sheets_are_equal_by_columns_and_rows() {
 fn a_book_shows_itself_briefly() {
     let bytes = write(&harbour());
     let shown = format!("{:?}", check(&bytes).unwrap());
-    let sheets = "[Sheet { columns: [0, 1], rows: 4 }, Sheet { columns: [1, 2], rows: 3 }]";
+    let sheet =
+        |columns, rows| format!("Sheet {{ columns: {columns}, forbids: false, rows: {rows} }}");
+    let sheets = format!("[{}, {}]", sheet("[0, 1]", 4), sheet("[1, 2]", 3));
     let book = format!("Book {{ values: [3, 2, 2], sheets: {sheets} }}");
     assert_eq!(shown, book);
 }

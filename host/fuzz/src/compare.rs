@@ -2,8 +2,8 @@
 
 use crate::Input;
 use conformance::{
-    compare_run, count_done, count_short, count_steps, count_tries, space_for, Calls, Seen, Tally,
-    FENCE, LIBRARY,
+    compare_run, count_done, count_forbidden, count_short, count_steps, count_tries, space_for,
+    Calls, Seen, Tally, FENCE, LIBRARY,
 };
 
 /// Compares both versions on the input that these bytes stand for, and counts it. A difference
@@ -25,6 +25,7 @@ pub fn try_bytes(bytes: &[u8], tally: &mut Tally) {
         count_short(tally, &book, &answers);
         count_done(tally, &book, orders, &answers);
         count_tries(tally, &book, orders, &answers);
+        count_forbidden(tally, &book, orders, &answers);
     }
 }
 

@@ -22,10 +22,11 @@
 //!   each brought into  |       | 16-bit set | n    |      | if the seed is 0     |
 //!   its range by mod   +-------+------------+------+------+----------------------+
 //!   a byte of a row that is 255 is any, and stays so
+//!   a width of 128 and more is a forbidden sheet: its rows are put in order, each once, and no byte is any
 //! ```
 
 use crate::shorten_finishes;
-use conformance::{mend, space_for, write, Book, Random, Sheet, ANY, BLOCK};
+use conformance::{mend, space_for, write, Book, Random, Sheet, ANY, BLOCK, FORBIDDEN};
 use reference::Kind;
 
 /// The longest input that a fuzz run makes.
@@ -141,7 +142,9 @@ impl<'a> Rest<'a> {
     }
 
     fn sheet(&mut self, counts: &[u8]) -> Sheet {
-        let width = (1 + usize::from(self.byte() % 4)).min(counts.len());
+        let byte = self.byte();
+        let forbidden = byte >= FORBIDDEN;
+        let width = (1 + usize::from(byte % 4)).min(counts.len());
         let columns = columns(self.number(), counts.len(), width);
         let rows = self.number() % 509;
         let seed = self.byte();
@@ -153,14 +156,22 @@ impl<'a> Rest<'a> {
                 random.byte()
             };
             match byte {
-                ANY => ANY,
+                ANY if !forbidden => ANY,
                 _ => byte % counts[usize::from(*column)],
             }
         };
-        let rows = (0..rows)
+        let mut rows: Vec<Vec<u8>> = (0..rows)
             .map(|_| columns.iter().map(&mut cell).collect())
             .collect();
-        Sheet { columns, rows }
+        if forbidden {
+            rows.sort_unstable();
+            rows.dedup();
+        }
+        Sheet {
+            forbidden,
+            columns,
+            rows,
+        }
     }
 }
 
@@ -183,7 +194,7 @@ pub fn described(book: &Book, orders: &[u8]) -> Vec<u8> {
     let mut bytes = described_head(&book.counts, book.sheets.len());
     for sheet in &book.sheets {
         let set = sheet.columns.iter().map(|column| 1 << column).sum();
-        bytes.extend(described_sheet(set, sheet.rows.len(), 0));
+        bytes.extend(described_sheet(sheet.forbidden, set, sheet.rows.len(), 0));
         bytes.extend(sheet.rows.iter().flatten());
     }
     front(DESCRIBED, orders, &bytes)
@@ -193,7 +204,7 @@ pub fn described(book: &Book, orders: &[u8]) -> Vec<u8> {
 pub fn described_by_seed(counts: &[u8], columns: &[u16], rows: &[usize], orders: &[u8]) -> Vec<u8> {
     let mut bytes = described_head(counts, columns.len());
     for (seed, (&set, &rows)) in (1..).zip(columns.iter().zip(rows)) {
-        bytes.extend(described_sheet(set, rows, seed));
+        bytes.extend(described_sheet(false, set, rows, seed));
     }
     front(DESCRIBED, orders, &bytes)
 }
@@ -204,8 +215,9 @@ fn described_head(counts: &[u8], sheets: usize) -> Vec<u8> {
     bytes
 }
 
-fn described_sheet(set: u16, rows: usize, seed: u8) -> [u8; 6] {
-    let width = set.count_ones() as u8;
+fn described_sheet(forbidden: bool, set: u16, rows: usize, seed: u8) -> [u8; 6] {
+    let kind = if forbidden { FORBIDDEN } else { 0 };
+    let width = kind + set.count_ones() as u8;
     let [set_low, set_high] = set.to_le_bytes();
     let [low, high] = (rows as u16).to_le_bytes();
     [width - 1, set_low, set_high, low, high, seed]

@@ -1,14 +1,14 @@
 //! The first inputs of a fuzz run: the conformance kit, small sweeps, and seeded books and lists.
 
 use crate::{described, described_by_seed, raw, LONGEST_INPUT, MENDED};
-use conformance::{back, changed, contradicting, finish, harbour, kit, narrow, one_sheet, regular};
-use conformance::{stairs, tiny, tries_of_contradicting, write};
+use conformance::{back, changed, contradicting, finish, harbour, kit, narrow, one_forbidden};
+use conformance::{one_sheet, regular, rising_rows, stairs, tiny, tries_of_contradicting, write};
 use conformance::{Book, Case, Run, Sheet, ANY, FINISH, MARK};
 use std::ops::Range;
 
 /// The first inputs, always the same: the vectors of the conformance kit, sweeps over single bytes, over pairs
-/// of row bytes and over row counts, sheets that are done or nearly, limits of finishes, and so many seeded runs
-/// and seeded books, damaged ones among them.
+/// of row bytes and over row counts, sheets that are done or nearly, limits of finishes, forbidden sheets and rows
+/// of these that don't rise, and so many seeded runs and seeded books, damaged ones among them.
 pub fn seeds(count: u64) -> Vec<Vec<u8>> {
     let mut seeds = Vec::new();
     for vector in kit::vectors() {
@@ -36,6 +36,8 @@ pub fn seeds(count: u64) -> Vec<Vec<u8>> {
     seeds.extend(done_sheets());
     seeds.extend((0..7).map(last_rows_of_a_word));
     seeds.extend(limits());
+    seeds.extend(forbidden_sheets());
+    seeds.extend(rows_that_dont_rise());
     for seed in 0..count {
         let run = Run::new(seed);
         seeds.extend(both(&run.book, &run.orders));
@@ -127,6 +129,7 @@ fn done_sheets() -> Vec<Vec<u8>> {
         stairs.push(vec![1; width.into()]);
         for rows in [all, stairs] {
             let sheet = |first: u8, rows: &[Vec<u8>]| Sheet {
+                forbidden: false,
                 columns: (first..first + width).collect(),
                 rows: rows.to_vec(),
             };
@@ -177,6 +180,84 @@ fn limits() -> Vec<Vec<u8>> {
         ] {
             seeds.extend(both(&write(&book), &finish(limit)));
         }
+    }
+    seeds
+}
+
+/// Forbidden sheets of each width over columns of two values: without rows, with one, with all but one that have 0 in
+/// the first column, with all of these, with all but one of all, and with all. Then of each number of rows around a word of
+/// 64, in two columns: a narrow to the last row's values leaves nothing, and one to its second value strikes. At last
+/// every width byte.
+fn forbidden_sheets() -> Vec<Vec<u8>> {
+    let mut seeds = Vec::new();
+    for width in 1..=4_usize {
+        let value = |n: usize, i: usize| (n >> (width - 1 - i) & 1) as u8;
+        let row = |n: usize| (0..width).map(|i| value(n, i)).collect();
+        let all: Vec<Vec<u8>> = (0..1 << width).map(row).collect();
+        let half = all.len() / 2;
+        for rows in [0, 1, half - 1, half, all.len() - 1, all.len()] {
+            let mut book = one_forbidden(&vec![2; width], all[..rows].to_vec());
+            book.counts.push(3);
+            let last = width as u8 - 1;
+            let orders = [MARK, narrow(last, 1), FINISH, back(1), narrow(0, 1), FINISH];
+            seeds.extend(both(&write(&book), &orders.concat()));
+        }
+    }
+    for rows in (1..=508).filter(|rows| rows % 64 < 2 || rows % 127 < 2) {
+        let book = one_forbidden(&[17, 32], rising(rows));
+        let (first, second) = ((rows - 1) / 32, (rows - 1) % 32);
+        let orders = [
+            MARK,
+            narrow(1, 1 << second),
+            FINISH,
+            back(1),
+            narrow(0, 1 << first | 1 << 16),
+            FINISH,
+        ];
+        seeds.extend(both(&write(&book), &orders.concat()));
+    }
+    let bytes = write(&one_forbidden(&[5; 2], rising(3)));
+    seeds.extend((0..=255).map(|byte| {
+        let mut bytes = bytes.clone();
+        bytes[24] = byte;
+        raw(MENDED, &bytes, &FINISH)
+    }));
+    seeds
+}
+
+/// So many rows of two values, which rise.
+fn rising(rows: usize) -> Vec<Vec<u8>> {
+    let row = |r: usize| vec![(r / 32) as u8, (r % 32) as u8];
+    (0..rows).map(row).collect()
+}
+
+/// Rows of a forbidden sheet near the ends of blocks, each made equal to the one before it, and the row of zeros; the same
+/// with a filler, or a value that is too large, at the end of the book. And each byte of three rows as others, any among
+/// them, alone and two at a time.
+fn rows_that_dont_rise() -> Vec<Vec<u8>> {
+    let mut seeds = Vec::new();
+    let book = one_forbidden(&[17, 32], rising(500));
+    let whole = write(&book);
+    let rows = &rising_rows(&book)[0];
+    for r in (1..500).filter(|r| (r + 2) % 127 < 4 || [1, 2, 499].contains(r)) {
+        for row in [[0; 4], *whole[rows[r - 1]..].first_chunk().expect("a row")] {
+            for (at, byte) in [(0, b'F'), (rows[499], 17), (rows[499] + 3, 1)] {
+                let mut bytes = whole.clone();
+                bytes[rows[r]..rows[r] + 4].copy_from_slice(&row);
+                bytes[at] = byte;
+                seeds.push(raw(MENDED, &bytes, &[]));
+            }
+        }
+    }
+    let three = one_forbidden(
+        &[3; 4],
+        vec![vec![0, 1, 1, 1], vec![1; 4], vec![1, 1, 2, 1]],
+    );
+    for value in [0, 1, 2, 3, 254, ANY] {
+        seeds.extend(wrong_bytes(&three, 512..528, value));
+    }
+    for value in [0, 1, ANY] {
+        seeds.extend(wrong_pairs(&three, 512..524, value));
     }
     seeds
 }

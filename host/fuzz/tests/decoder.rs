@@ -1,11 +1,11 @@
 //! Any bytes are an input, and the inputs that come of them are of every kind.
 
 use conformance::{contradicting, example_orders, finish, harbour, narrow, regular, space_for};
-use conformance::{look_for_done, look_for_steps, look_for_tries};
+use conformance::{look_for_done, look_for_forbidden, look_for_steps, look_for_tries};
 use conformance::{write, Random, Tally, ANY, FINISH};
 use fuzz::{described, raw, seeds, shorten_finishes, try_bytes};
 use fuzz::{Input, DESCRIBED, LONGEST_INPUT, MENDED};
-use reference::{book_refusals, run_refusals};
+use reference::{book_refusals, decode, run_refusals};
 
 /// Bytes from chance, most often short.
 fn any_bytes(random: &mut Random) -> Vec<u8> {
@@ -46,9 +46,12 @@ fn books_and_orders_are_read_as_written() {
     let orders = example_orders().concat();
     let mut short = harbour();
     short.sheets[1].rows[0][1] = ANY;
+    let mut mixed = short.clone();
+    mixed.sheets[0].forbidden = true;
     for book in [
         harbour(),
         short,
+        mixed,
         regular(16, 32, 8, 9, 4),
         regular(1, 1, 0, 0, 1),
     ] {
@@ -67,6 +70,43 @@ fn books_and_orders_are_read_as_written() {
             assert_eq!(input.space, space_for(&orders));
         }
     }
+}
+
+/// A described forbidden sheet is one that is accepted, whatever its rows are: they rise, and no cell is any.
+#[test]
+fn forbidden_sheets_are_put_in_order() {
+    let mut book = harbour();
+    book.sheets[1].rows = [[1, 1], [0, 1], [1, 1], [0, 0]].map(Vec::from).to_vec();
+    book.sheets[1].forbidden = true;
+    let read = decode(&Input::read(&described(&book, &[])).book).expect("an accepted book");
+    assert!(!read.sheets[0].forbidden && read.sheets[1].forbidden);
+    assert_eq!(read.sheets[1].rows, [[0, 0], [0, 1], [1, 1]]);
+    let mut any = book.clone();
+    any.sheets[1].rows = vec![vec![0, ANY]];
+    let read = decode(&Input::read(&described(&any, &[])).book).expect("an accepted book");
+    // 255 mod 2
+    assert_eq!(read.sheets[1].rows, [[0, 1]]);
+    let random = &mut Random::new(3);
+    let mut tally = Tally::default();
+    for _ in 0..20_000 {
+        let mut bytes = any_bytes(random);
+        bytes.resize(bytes.len().max(8), 0);
+        // Described, not damaged, and short of orders.
+        bytes[0] = DESCRIBED;
+        bytes[2..4].fill(0);
+        let book = decode(&Input::read(&bytes).book).expect("an accepted book");
+        for sheet in &book.sheets {
+            let words = format!(
+                "width {}, forbidden {}",
+                sheet.columns.len(),
+                sheet.forbidden
+            );
+            tally.add(&words, 1);
+        }
+    }
+    println!("{tally}");
+    assert_eq!(tally.kinds(), 8);
+    tally.assert_each_above(1_000);
 }
 
 /// "256 orders run, 257 give 10": a short input can have a list as long as that.
@@ -129,6 +169,7 @@ fn seeded_inputs_agree_and_are_of_every_kind() {
     look_for_steps(&mut tally);
     look_for_done(&mut tally);
     look_for_tries(&mut tally);
+    look_for_forbidden(&mut tally);
     for (refusal, _) in book_refusals() {
         tally.add(&format!("books, refusal {refusal}"), 0);
     }

@@ -91,6 +91,20 @@ fn sixteen_open() -> Book {
     book
 }
 
+/// The same columns; the first eight each clash with half of one of the last, but for their highest value: rows are
+/// counted, and none is struck before a column is set.
+fn sixteen_counted() -> Book {
+    let mut book = regular(16, 32, 8, 0, 2);
+    for (sheet, column) in book.sheets.iter_mut().zip(0..) {
+        sheet.forbidden = true;
+        sheet.columns = vec![column, column + 8];
+        sheet.rows = (0..31 * 16_u16)
+            .map(|n| vec![(n / 16) as u8, (n % 16) as u8])
+            .collect();
+    }
+    book
+}
+
 /// The search goes one call deeper for each column that it sets: no book takes it deeper than one
 /// whose sixteen columns are all open, down to the last.
 #[test]
@@ -101,20 +115,23 @@ fn the_stack_of_a_run() {
     });
     let narrows: Vec<_> = (0..16).map(|column| narrow(column, u32::MAX - 1)).collect();
     let marked = [&[MARK; 16][..], &narrows, &[FINISH, back(1), FINISH]].concat();
-    let [opening, done, of_0, of_8, of_16, after_marks] = [
+    let [opening, done, counted, of_0, of_8, of_16, of_counted, after_marks] = [
         (harbour(), vec![]),
         (one_sheet(&[32; 4], stairs(&[32; 4])), vec![]),
+        (sixteen_counted(), vec![]),
         (regular(16, 1, 0, 0, 1), vec![FINISH]),
         (regular(8, 32, 0, 0, 1), vec![FINISH]),
         (sixteen_open(), vec![FINISH]),
+        (sixteen_counted(), vec![FINISH]),
         (sixteen_open(), marked),
     ]
     .map(|(book, orders)| stack_of(&book, &orders.concat()));
     println!(
-        "stack in bytes: check {check}, run {opening}, with a sheet that is nearly done {done}, with a \
-         finish of 0 open columns {of_0}, of 8 {of_8}, of 16 {of_16}, after 16 marks {after_marks}"
+        "stack in bytes: check {check}, run {opening}, with a sheet that is nearly done {done}, with \
+         forbidden ones that are counted {counted}, with a finish of 0 open columns {of_0}, of 8 {of_8}, of 16 \
+         {of_16}, with forbidden sheets {of_counted}, after 16 marks {after_marks}"
     );
-    assert!(check < 1_024 && opening.max(done) < 28_672);
+    assert!(check < 1_024 && opening.max(done).max(counted) < 28_672);
     assert!(of_0 < of_8 && of_8 < of_16);
-    assert!(of_16.max(after_marks) < 43_008);
+    assert!(of_16.max(of_counted).max(after_marks) < 43_008);
 }

@@ -1,6 +1,6 @@
 //! The 72 bytes of an answer.
 
-use crate::done::allows_every_choice;
+use crate::choices::allows_every_choice;
 use crate::orders::value_bit;
 use crate::session::{Outcome, Shown};
 use crate::Book;

@@ -14,6 +14,8 @@ pub struct Book {
 /// The data of one sheet.
 #[derive(Clone, Debug, PartialEq, Eq)]
 pub struct Sheet {
+    /// "marks a forbidden sheet": its rows are what it doesn't allow.
+    pub forbidden: bool,
     /// "k column numbers below C, each above the one before"
     pub columns: Vec<u8>,
     /// The n rows in the order of the book; each has k cells, one for each column of the sheet: a value,
@@ -49,6 +51,7 @@ fn sheet(book: &[u8], s: usize, entry: &head::Entry, first_block: usize) -> Shee
         rows.push(book[start..start + entry.width].to_vec());
     }
     Sheet {
+        forbidden: entry.forbidden,
         columns: book[numbers..numbers + entry.width].to_vec(),
         rows,
     }

@@ -22,6 +22,7 @@ pub(crate) fn values(head: &[u8], column: usize) -> usize {
 
 /// What one of the eight sheet entries says.
 pub(crate) struct Entry {
+    pub(crate) forbidden: bool,
     pub(crate) width: usize,
     pub(crate) columns: [usize; 4],
     pub(crate) rows: usize,
@@ -31,8 +32,11 @@ pub(crate) struct Entry {
 /// … Bytes 6, 7: rows n"
 pub(crate) fn entry(head: &[u8], s: usize) -> Entry {
     let byte = |i: usize| usize::from(head[24 + 8 * s + i]);
+    let forbidden = (129..=132).contains(&byte(0));
     Entry {
-        width: byte(0),
+        forbidden,
+        // "Width byte 129 to 132 marks a forbidden sheet of width 1 to 4."
+        width: if forbidden { byte(0) - 128 } else { byte(0) },
         columns: [byte(1), byte(2), byte(3), byte(4)],
         rows: byte(6) + 256 * byte(7),
     }
@@ -74,7 +78,7 @@ pub(crate) fn fields(head: &[u8]) -> Vec<Field> {
     fields
 }
 
-/// "Byte 0: width k, 1 to 4. Bytes 1 to 4: k column numbers below C, each above the one before;
+/// "Byte 0: width k, 1 to 4", or the "Width byte" of a forbidden sheet. "Bytes 1 to 4: k column numbers below C, each above the one before;
 /// the rest zero. Byte 5: zero. Bytes 6, 7: rows n, 0 to 508."
 fn entry_fields(head: &[u8], s: usize) -> Vec<Field> {
     let start = 24 + 8 * s;

@@ -1,5 +1,5 @@
 //! An independent version of the two calls, the check of a book and the run of a list, written from
-//! document 01, from document 02's requests that have landed (W1, W2, W3, W4) and the readings of both in
+//! document 01, from document 02's requests that have landed (W1, W2, W3, W4, W6) and the readings of both in
 //! `docs/DECISIONS.md`, and from nothing else.
 //!
 //! It is meant to be read beside these documents: each piece stands under the sentence that it
@@ -11,8 +11,8 @@
 mod answers;
 mod book;
 mod cells;
+mod choices;
 mod closure;
-mod done;
 mod finish;
 mod head;
 mod orders;
@@ -24,10 +24,11 @@ mod tests;
 
 pub use book::{decode, Book, Sheet};
 pub use cells::{is_short, lies_in, written_out, ANY};
+pub use choices::{allows, turned};
 pub use closure::closure;
 pub use finish::search;
 pub use orders::{all_values, limit_of, Kind, Order, MOST_TRIES};
-pub use rows::{row_faults, RowFault};
+pub use rows::{fallen_rows, row_faults, RowFault};
 pub use run::{printed, run, run_refusals, space_for};
 pub use session::{session, Outcome, Shown};
 
@@ -70,8 +71,8 @@ pub fn check(book: &[u8]) -> u64 {
     }
 }
 
-/// "Where several apply, the lowest of these numbers is given." The number and the place. Of the two
-/// for rows it is the one that comes first in the file.
+/// "Where several apply, the lowest of these numbers is given." The number and the place. Of 5 and 6 it
+/// is the one that comes first in the file.
 fn refusal(book: &[u8]) -> Option<(u64, usize)> {
     let mut causes = CAUSES.iter();
     let before_rows = causes.find_map(|(number, place, _)| Some((*number, place(book)?)));

@@ -4,6 +4,7 @@
 mod defined;
 mod done;
 mod finish;
+mod forbidden;
 mod short;
 
 use crate::{book_refusals, check, decode, run_refusals, Book, Kind, Sheet};
@@ -32,6 +33,7 @@ fn harbour() -> Vec<u8> {
 /// A book of these columns' values, and of sheets, each its columns and its rows.
 fn described(counts: &[u8], sheets: &[(&[u8], &[&[u8]])]) -> Book {
     let sheet = |&(columns, rows): &(&[u8], &[&[u8]])| Sheet {
+        forbidden: false,
         columns: columns.to_vec(),
         rows: rows.iter().map(|row| row.to_vec()).collect(),
     };
@@ -67,11 +69,12 @@ fn a_sum_past_32_bits_leaves_out_its_carries() {
 }
 
 /// Byte 512 is the first that a row can have, and 16,891 the last; the four bytes of each block's check
-/// lie between two places.
+/// lie between two places. The row of byte 516 is the first that has one before it.
 #[test]
 fn places_of_rows() {
     for (refusal, places) in &book_refusals()[4..] {
-        let (first, last) = (512 / 4, 16_891 / 4);
+        let first = if *refusal == 7 { 516 / 4 } else { 512 / 4 };
+        let last = 16_891 / 4;
         let rows = (first..=last).filter(|place| 4 * place % 512 != 508);
         assert!(rows.eq(places.iter().copied()), "refusal {refusal}");
     }
@@ -84,7 +87,8 @@ fn kinds_and_refusals() {
     let places = books.map(|(refusal, places)| (refusal, places.len()));
     // 127 rows in each of 32 blocks
     let rows = 4_064;
-    assert!(places.eq([(1, 1), (2, 33), (3, 505), (4, 33), (5, rows), (6, rows)]));
+    let [five, six, seven] = [(5, rows), (6, rows), (7, rows - 1)];
+    assert!(places.eq([(1, 1), (2, 33), (3, 505), (4, 33), five, six, seven]));
     assert_eq!(run_refusals(), [10, 11]);
     let refusals = Kind::ALL.map(Kind::refusals);
     let expected: [&[u8]; 5] = [&[25, 21, 22], &[25, 23], &[25, 24], &[25, 27], &[20]];

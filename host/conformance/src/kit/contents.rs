@@ -5,15 +5,22 @@
 //! sheet 0 1         a sheet, by the numbers of its columns
 //! row 0 0           a row of it, by its values
 //! row 1 0
+//! forbidden 1 2     a forbidden sheet: its rows are what it doesn't allow
+//! row 1 1
 //! ```
 
 use crate::{Book, Sheet};
+
+/// The words before the columns of a sheet, by its kind.
+const SHEET: &str = "sheet";
+const FORBIDDEN: &str = "forbidden";
 
 /// The lines of a book.
 pub fn contents(book: &Book) -> String {
     let mut lines = line("values", &book.counts);
     for sheet in &book.sheets {
-        lines += &line("sheet", &sheet.columns);
+        let word = if sheet.forbidden { FORBIDDEN } else { SHEET };
+        lines += &line(word, &sheet.columns);
         for row in &sheet.rows {
             lines += &line("row", row);
         }
@@ -38,7 +45,8 @@ pub fn read_contents(lines: &str) -> Book {
         let numbers: Vec<u8> = numbers.collect::<Result<_, _>>().expect("numbers");
         match (word, book.sheets.last_mut()) {
             ("values", None) => book.counts = numbers,
-            ("sheet", _) => book.sheets.push(Sheet {
+            (SHEET | FORBIDDEN, _) => book.sheets.push(Sheet {
+                forbidden: word == FORBIDDEN,
                 columns: numbers,
                 rows: Vec::new(),
             }),

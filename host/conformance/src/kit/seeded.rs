@@ -4,7 +4,7 @@ use super::Vector;
 use crate::{space_for, Random, Run, Shape};
 
 /// How many of each shape.
-const SHAPES: [(Shape, usize, &str); 7] = [
+const SHAPES: [(Shape, usize, &str); 8] = [
     (Shape::Tiny, 5, "up to three columns of up to four values"),
     (
         Shape::Small,
@@ -21,6 +21,11 @@ const SHAPES: [(Shape, usize, &str); 7] = [
         Shape::Covering,
         8,
         "sheets that allow every choice, or all but one",
+    ),
+    (
+        Shape::Forbidding,
+        8,
+        "forbidden sheets that leave little, and plain ones",
     ),
     (
         Shape::Searching,

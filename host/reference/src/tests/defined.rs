@@ -2,23 +2,31 @@
 //! definitions: every box that there is, every set, every try, and every choice.
 
 use super::{described, described_harbour};
-use crate::cells::matched;
-use crate::done::allows_every_choice;
+use crate::choices::allows_every_choice;
 use crate::finish::{finish, one_of_each, values_of};
 use crate::orders::value_bit;
-use crate::{all_values, closure, is_short, lies_in, search, written_out};
+use crate::{all_values, allows, closure, is_short, search, turned, written_out};
 use crate::{Book, Outcome, Sheet, ANY, MOST_TRIES};
 
+/// Every combination of one value of each column of a sheet that lies in the box.
+fn combinations(sheet: &Sheet, domains: &[u32]) -> Vec<Vec<u8>> {
+    let columns = sheet.columns.iter();
+    let held = columns.map(|&column| values_of(domains[usize::from(column)]));
+    one_of_each(&held.collect::<Vec<_>>())
+}
+
 /// "A *sound box* has no empty column, and in it, for each sheet, every value of every column of
-/// that sheet is carried by a row of that sheet lying in the box."
+/// that sheet is carried" by a combination in the box: "Sound boxes, full sets and done then go by allowed
+/// combinations".
 fn is_sound(book: &Book, domains: &[u32]) -> bool {
     let no_empty_column = domains.iter().all(|&domain| domain != 0);
     let every_value_carried = book.sheets.iter().all(|sheet| {
+        let mut allowed = combinations(sheet, domains);
+        allowed.retain(|combination| allows(sheet, combination));
         (0..sheet.columns.len()).all(|i| {
             let domain = domains[usize::from(sheet.columns[i])];
-            let lying = sheet.rows.iter().filter(|row| lies_in(sheet, row, domains));
-            let carried = lying.fold(0, |carried, row| carried | matched(row[i], domain));
-            carried == domain
+            let values = allowed.iter().map(|combination| value_bit(combination[i]));
+            values.fold(0, |carried, value| carried | value) == domain
         })
     });
     no_empty_column && every_value_carried
@@ -47,29 +55,23 @@ fn union_of_sound_boxes(book: &Book, allowed: &[u32]) -> Vec<u32> {
 /// "every choice of one value from the current domain of each column of the sheet is allowed by it": how
 /// many are not.
 pub(super) fn choices_missing(sheet: &Sheet, domains: &[u32]) -> usize {
-    let columns = sheet.columns.iter();
-    let held = columns.map(|&column| values_of(domains[usize::from(column)]));
-    let mut choices = one_of_each(&held.collect::<Vec<_>>());
-    choices.retain(|choice| {
-        let mut alone = domains.to_vec();
-        for (&column, &value) in sheet.columns.iter().zip(choice) {
-            alone[usize::from(column)] = value_bit(value);
-        }
-        !sheet.rows.iter().any(|row| lies_in(sheet, row, &alone))
-    });
+    let mut choices = combinations(sheet, domains);
+    choices.retain(|choice| !allows(sheet, choice));
     choices.len()
 }
 
-/// "its values in each sheet's columns form a row"; short rows too, since "Full sets match in the same
-/// way": the row lies in the box of these values alone.
+/// "its values in each sheet's columns form a row", or one that is short, or a combination that a forbidden
+/// sheet allows.
 fn is_full(book: &Book, set: &[u8]) -> bool {
-    let alone: Vec<u32> = set.iter().map(|&value| value_bit(value)).collect();
-    let mut sheets = book.sheets.iter();
-    sheets.all(|sheet| sheet.rows.iter().any(|row| lies_in(sheet, row, &alone)))
+    book.sheets.iter().all(|sheet| {
+        let columns = sheet.columns.iter();
+        let values: Vec<u8> = columns.map(|&column| set[usize::from(column)]).collect();
+        allows(sheet, &values)
+    })
 }
 
-/// "A full set takes one value of each current domain, and its values in each sheet's columns form
-/// a row. The first is lowest by column 0, then column 1, and so on."
+/// "A full set takes one value of each current domain". "The first is lowest by column 0, then column 1,
+/// and so on."
 fn by_trying_all(book: &Book, domains: &[u32]) -> Outcome {
     let values: Vec<_> = domains.iter().map(|&domain| values_of(domain)).collect();
     let mut sets = one_of_each(&values).into_iter();
@@ -124,7 +126,7 @@ impl Numbers {
     }
 
     /// Up to twelve rows. In half of the sheets the first value and the last must differ, as in K7. In a
-    /// quarter of them every fourth cell is any.
+    /// quarter of them every fourth cell is any. A quarter of the others are forbidden sheets.
     fn sheet(&mut self, counts: &[u8]) -> Sheet {
         let mut columns: Vec<u8> = (0..2 + self.below(2))
             .map(|_| self.below(counts.len() as u64))
@@ -139,12 +141,22 @@ impl Numbers {
         } else {
             rows.truncate(self.below(13).into());
         }
+        let mut forbidden = false;
         if self.below(4) == 0 {
             let cells = rows.iter_mut().flatten();
             let some = cells.filter(|_| self.below(4) == 0);
             some.for_each(|cell| *cell = ANY);
+        } else if self.below(4) == 0 {
+            forbidden = true;
+            rows.truncate(self.below(13).into());
+            rows.sort();
+            rows.dedup();
         }
-        Sheet { columns, rows }
+        Sheet {
+            forbidden,
+            columns,
+            rows,
+        }
     }
 }
 
@@ -157,8 +169,17 @@ pub(super) fn without_short_rows(book: &Book) -> Book {
     plain
 }
 
+/// A book that allows the same, all of whose sheets are of the other kind.
+fn turned_over(book: &Book) -> Book {
+    let sheets = book.sheets.iter().map(|sheet| turned(book, sheet));
+    Book {
+        counts: book.counts.clone(),
+        sheets: sheets.collect(),
+    }
+}
+
 /// "What a buyer sees of an accepted book must equal a book with such rows written out": of that one too, what
-/// document 01 says of plain rows.
+/// document 01 says of plain rows. And of one whose forbidden sheets are plain and whose plain ones are forbidden.
 #[test]
 fn all_give_what_the_definitions_say() {
     let numbers = &mut Numbers(1);
@@ -167,7 +188,8 @@ fn all_give_what_the_definitions_say() {
     let [mut short, mut kept_by_short, mut found_by_short] = [0; 3];
     let [mut two_open, mut one_missing, mut more_missing] = [0; 3];
     let (mut tried, mut most_tries) = (0, 0);
-    for case in 0..30_000 {
+    let [mut mixed, mut struck_by_forbidden, mut dead_by_forbidden] = [0; 3];
+    for case in 0..36_000 {
         let book = numbers.book();
         let mut allowed = Vec::new();
         for &count in &book.counts {
@@ -211,6 +233,22 @@ fn all_give_what_the_definitions_say() {
                 _ => more_missing += 1,
             }
         }
+        let twin = turned_over(&book);
+        assert_eq!(closure(&twin, &allowed), domains, "case {case}: {book:?}");
+        assert_eq!(finish(&twin, &domains, MOST_TRIES), ended, "case {case}");
+        for (sheet, twin) in book.sheets.iter().zip(&twin.sheets) {
+            let [one, other] = [sheet, twin].map(|it| allows_every_choice(it, &domains));
+            assert_eq!(one, other, "case {case}: {sheet:?}");
+        }
+        let mut others = book.clone();
+        others.sheets.retain(|sheet| !sheet.forbidden);
+        if others.sheets.len() < book.sheets.len() {
+            mixed += usize::from(!others.sheets.is_empty());
+            let without = closure(&others, &allowed);
+            let dies = without[0] != 0 && domains[0] == 0;
+            dead_by_forbidden += usize::from(dies);
+            struck_by_forbidden += usize::from(without != domains && !dies);
+        }
         let plain = without_short_rows(&book);
         if plain != book {
             let twin = written_out(&book);
@@ -247,6 +285,11 @@ fn all_give_what_the_definitions_say() {
          {more_missing} more"
     );
     println!("{tried} with two tries or more, up to {most_tries}");
+    println!(
+        "{mixed} with sheets of both kinds; forbidden ones strike in {struck_by_forbidden}, and leave \
+         nothing in {dead_by_forbidden}"
+    );
+    assert!(mixed > 5_000 && struck_by_forbidden > 1_000 && dead_by_forbidden > 1_000);
     assert!(tried > 2_000 && most_tries > 4);
     assert!(two_open > 1_000 && one_missing > 1_000 && more_missing > 1_000);
     assert!(dead > 5_000 && struck > 5_000 && kept > 5_000);

@@ -3,7 +3,7 @@
 use super::defined::choices_missing;
 use super::{described, harbour};
 use crate::answers;
-use crate::done::allows_every_choice;
+use crate::choices::allows_every_choice;
 use crate::finish::one_of_each;
 use crate::{run, Sheet, ANY};
 
@@ -83,7 +83,11 @@ fn dead_sessions() {
 /// A sheet of these rows is done in each of these boxes exactly when no choice is missing.
 fn as_by_trying(rows: Vec<Vec<u8>>, boxes: &[Vec<u32>]) {
     let columns = (0..boxes[0].len() as u8).collect();
-    let sheet = Sheet { columns, rows };
+    let sheet = Sheet {
+        forbidden: false,
+        columns,
+        rows,
+    };
     for domains in boxes {
         let missing = choices_missing(&sheet, domains);
         let done = allows_every_choice(&sheet, domains);

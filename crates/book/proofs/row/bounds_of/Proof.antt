@@ -4,8 +4,8 @@ use Rattle.heads.proofs.Heads.{sheets-most}
 use Rattle.book.proofs.row.bounds_of.Statement.{statement}
 use Rattle.book.proofs.row.bounds_of.Tie as tie
 
-width-requires : tie.Need-width-requires
-width-requires c κs =
+any-places-requires : tie.Need-any-places-requires
+any-places-requires c κs =
     let o : tie.After-shared-slice-known = search in
     let k = o .before in
     (search needs, omega (arith, sheets-most (k .args .h .now) (k .pre .1)))
@@ -13,4 +13,4 @@ width-requires c κs =
 pub bounds-of-spec : {M : Type 1} → statement M
 bounds-of-spec =
     tie.close
-    (tie.spec (λ c κs. search needs) (λ c κs. search needs) (λ c κs. search needs) (λ c κs. search needs) width-requires (λ c. search needs))
+    (tie.spec (λ c κs. search needs) (λ c κs. search needs) (λ c κs. search needs) (λ c κs. search needs) any-places-requires (λ c. search needs))

@@ -6,8 +6,9 @@ use borrow.Author.Tests.{lt-ltb}
 use lib.ListN.{getD}
 use Rattle.heads.specs.Heads.{widthOf}
 use Rattle.words.proofs.Places.{eight}
-use Rattle.cover.specs.Covers.{plainIn, rowsTo}
-use Rattle.cover.proofs.Fewer.{rows-most}
+use Rattle.words.specs.Sheets.{rowsTo}
+use Rattle.words.proofs.Indexes.{rows-most}
+use Rattle.cover.specs.Covers.{plainIn}
 use Rattle.cover.proofs.few.too_few.Statement.{statement}
 use Rattle.cover.proofs.few.too_few.Tie as tie
 

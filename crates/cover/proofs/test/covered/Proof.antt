@@ -1,34 +1,31 @@
 use mathlib.Core.Path.{_∙_, sym}
 use borrow.Author.Needs.{needs}
-use Rattle.words.proofs.Places.{is-sheet}
-use Rattle.cover.proofs.Fewer.{sizes-few}
-use Rattle.cover.proofs.Sheets.{few-rows, tells-subsumed}
+use Rattle.words.proofs.Places.{eight, head-there}
+use Rattle.cover.proofs.Sheets.{forbidden-covered}
 use Rattle.cover.proofs.test.covered.Statement.{statement}
 use Rattle.cover.proofs.test.covered.Tie as tie
 
-too-few-requires : tie.Need-too-few-requires
-too-few-requires c κs =
-    let start : tie.Start = search in
-    let p = start .pre in
-    (is-sheet (p .0), sizes-few (p .3), p .1 .sized, p .1 .indexed)
+forbids-requires : tie.Need-forbids-requires
+forbids-requires c κs = let start : tie.Start = search in (head-there (start .pre .0), eight (start .pre .0))
+
+nonzero-words-requires : tie.Need-nonzero-words-requires
+nonzero-words-requires c κs = let start : tie.Start = search in eight (start .pre .0)
 
 returns : tie.Need-returns
 returns c =
     let start : tie.Start = search in
-    let at-few : tie.After-too-few = search in
+    let f : tie.After-forbids = search in
+    let g : tie.Then1 = search in
     let p = start .pre in
-    few-rows (p .0) (p .4) (p .1) (p .5) (p .3) (p .2) (sym (at-few .too-few .ensures) ∙ c .if1 .taken)
+    forbidden-covered (p .0) (p .4) (p .1) (p .5) (sym (f .forbids .ensures) ∙ g .if1 .taken) (c .nonzero-words .ensures .0)
 
-wanted-requires : tie.Need-wanted-requires
-wanted-requires c κs = let start : tie.Start = search in let k = is-sheet (start .pre .0) in search (needs, k)
-
-returns-2 : tie.Need-returns-2
-returns-2 c =
+covered-by-rows-requires : tie.Need-covered-by-rows-requires
+covered-by-rows-requires c κs =
     let start : tie.Start = search in
-    let at-wanted : tie.After-wanted = search in
+    let f : tie.After-forbids = search in
+    let g : tie.Else1 = search in
     let p = start .pre in
-    tells-subsumed (p .0) (p .4) (p .1) (p .5) (at-wanted .wanted .ensures) (c .all-matched .ensures)
+    (p .0, p .1, p .2, p .3, p .4, p .5, sym (f .forbids .ensures) ∙ g .if1 .left)
 
 pub covered-spec : {M : Type 1} → statement M
-covered-spec =
-    tie.close (tie.spec too-few-requires returns wanted-requires (λ c κs. search needs) returns-2)
+covered-spec = tie.close (tie.spec forbids-requires nonzero-words-requires returns covered-by-rows-requires (λ c. search needs))

@@ -28,9 +28,9 @@ complement (suc k) y (suc v) l h =
     ∙ complement k (y / 2) v (omega (arith, pow-succ' 2 k)) (omega arith)
     ∙ ap not (sym (bit-suc v y))
 
-shifted-bit : (v j m : ℕ) → bit v (m / 2 ^ j) ≡ bit (v + j) m
+pub bit-moved : (v j m : ℕ) → bit v (m / 2 ^ j) ≡ bit (v + j) m
 unfolding bit
-shifted-bit v j m =
+bit-moved v j m =
     let e : j + v ≡ v + j = omega arith in
     ap (λ (x : ℕ). eqb (x % 2) 1) (shr-shr m j v) ∙ ap (λ (i : ℕ). eqb (m / 2 ^ i % 2) 1) e
 
@@ -41,7 +41,7 @@ ones-bit k v l =
 
 -- all places of k, shifted down to n of them
 pub ones-shifted : (k n v : ℕ) → n ≤ k → bit v ((2 ^ k - 1) / 2 ^ (k - n)) ≡ ltb v n
-ones-shifted k n v l = shifted-bit v (k - n) (2 ^ k - 1) ∙ go (below v n)
+ones-shifted k n v l = bit-moved v (k - n) (2 ^ k - 1) ∙ go (below v n)
   where
     go : (v < n) ⊎ (n ≤ v) → bit (v + (k - n)) (2 ^ k - 1) ≡ ltb v n
     go (inl p) = ones-bit k (v + (k - n)) (omega arith) ∙ sym (lt-ltb v n p)

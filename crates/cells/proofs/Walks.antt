@@ -3,20 +3,18 @@ use mathlib.Core.Path.{_∙_, _≡_, ap, refl, sym}
 use mathlib.Core.Bool.{Bool, _&&_, _||_, cond, false, false≢true, or-false, true}
 use mathlib.Core.Logic.{_⊎_, inl, inr}
 use mathlib.Core.List.{List}
-use Prim.Native.Nat.{_%_, _*_, _+_, _-_, _/_, _<_, _^_, _≤_, suc, zero, ℕ}
+use Prim.Native.Nat.{_%_, _*_, _+_, _/_, _<_, _^_, suc, zero, ℕ}
 use native.Mathlib.Nat.{mod-eq-of-lt, one-mul, zero-mul}
 use native.Mathlib.Omega.{arith}
 use lib.Bits.{bitAnd, bitOr}
 use lib.Dec.{eqb, ltb}
 use lib.Pow.{pow-lt}
-use borrow.Author.Tests.{eqb-false, eqb-true, le-ltb, lt-ltb, ne-eqb}
+use borrow.Author.Tests.{eqb-false, eqb-true, lt-ltb, ne-eqb}
 use Rattle.model.specs.Books.{inDomain, isAny}
-use Rattle.model.specs.Masks.{Cleared, bit, maskOf}
-use Rattle.model.specs.Tests.{oneIf}
-use Rattle.model.proofs.Masks.{bit-and, bit-high, bit-maskOf, bit-maskOf-out, bit-of-zero, bit-or, bit-pow, bit-pow-other, maskOf-lt, maskOf-same}
-use Rattle.model.proofs.Tests.{and-false, and-true, below, either, positive}
+use Rattle.model.specs.Masks.{Cleared, bit}
+use Rattle.model.proofs.Masks.{bit-and, bit-high, bit-of-zero, bit-or, bit-pow, bit-pow-other}
+use Rattle.model.proofs.Tests.{and-false, and-true, either, positive}
 use Rattle.cells.specs.Cells.{IsCell, Kept, KeptAny, KeptBy, Readable, WithAny, cellAt}
-use Rattle.cells.proofs.Ones.{low-ones}
 
 pub four-all : (P : ℕ → Type 0) → P 0 → P 1 → P 2 → P 3 → (j : ℕ) → j < 4 → P j
 four-all P p q r s zero l = p
@@ -116,53 +114,6 @@ kept-end w = record { at = walked-end w }
 pub cell-in : (b : List ℕ) (begin from j m t x h : ℕ) → x ≡ cellAt b begin (from + t) j → h ≡ m / 2 ^ (x % 64) % 2 → cellIn b begin from j m t ≡ eqb h 1
 unfolding cellIn bit
 cell-in b begin from j m t x h e f = rw (f, ← e)
-
--- ---- pass 1 over the first 60 rows, from the last down
--- the rows from k on have been looked at
-pub record AllFrom (b : List ℕ) (begin from j m k keep : ℕ) : Type 0 where
-  pub most : k ≤ 60
-  pub is : keep ≡ maskOf (60 - k) (λ i. cellIn b begin from j m (k + i))
-
-pub all-start : (b : List ℕ) (begin from j m : ℕ) → AllFrom b begin from j m 60 0
-unfolding maskOf
-all-start b begin from j m = record { most = omega arith; is = refl }
-
-pub all-turn : (b : List ℕ) (begin from j m k keep h : ℕ) → AllFrom b begin from j m k keep → 0 < k → cellIn b begin from j m (k - 1) ≡ eqb h 1 → h < 2
-    → AllFrom b begin from j m (k - 1) (keep + keep + h)
-unfolding maskOf
-all-turn b begin from j m k keep h a l e f =
-    record {
-      most = omega (arith, a .most);
-      is =
-          let n : 60 - (k - 1) ≡ suc (60 - k) = omega (arith, a .most) in
-          let z : k - 1 + 0 ≡ k - 1 = omega arith in
-          let d0 : oneIf (cellIn b begin from j m (k - 1 + 0)) ≡ h = ap (λ (i : ℕ). oneIf (cellIn b begin from j m i)) z ∙ ap oneIf e ∙ digit h f in
-          let rest : maskOf (60 - k) (λ i. cellIn b begin from j m (k - 1 + suc i)) ≡ keep
-          = maskOf-same (60 - k) _ _ (λ i q. ap (cellIn b begin from j m) (let y : k - 1 + suc i ≡ k + i = omega arith in y)) ∙ sym (a .is) in
-          rw n (omega (arith, d0, rest));
-    }
-  where
-    digit : (h : ℕ) → h < 2 → oneIf (eqb h 1) ≡ h
-    digit zero q = refl
-    digit (suc zero) q = refl
-    digit (suc (suc h)) q = absurd (omega arith)
-
-pub all-fits : {b : List ℕ} {begin from j m k keep : ℕ} → AllFrom b begin from j m k keep → keep < 2 ^ (60 - k)
-all-fits {b} {begin} {from} {j} {m} {k} {keep} a = rw (a .is) (maskOf-lt (60 - k) (λ i. cellIn b begin from j m (k + i)))
-
-pub all-end : {b : List ℕ} {begin from j m k keep : ℕ} → k ≡ 0 → AllFrom b begin from j m k keep → KeptBy b begin from j m (2 ^ 60 - 1) keep
-unfolding cellIn
-all-end {b} {begin} {from} {j} {m} {k} {keep} z a = record { at = λ i. ap (bit i) whole60 ∙ go i (below i 60) }
-  where
-    whole60 : keep ≡ maskOf 60 (λ i. cellIn b begin from j m (0 + i))
-    whole60 = let n : 60 - k ≡ 60 = omega arith in rw (n, z) at (a .is)
-
-    go : (i : ℕ) → (i < 60) ⊎ (60 ≤ i)
-        → bit i (maskOf 60 (λ i. cellIn b begin from j m (0 + i))) ≡ (bit i (2 ^ 60 - 1) && bit (cellAt b begin (from + i) j % 64) m)
-    go i (inl l) =
-        let e : 0 + i ≡ i = omega arith in
-        rw (low-ones 60 i, lt-ltb i 60 l) (bit-maskOf 60 (λ i. cellIn b begin from j m (0 + i)) i l ∙ ap (cellIn b begin from j m) e)
-    go i (inr l) = rw (low-ones 60 i, le-ltb i 60 l) (bit-maskOf-out 60 (λ i. cellIn b begin from j m (0 + i)) i l)
 
 -- of rows that were looked at some, and two parts of a word
 pub kept-part : {b : List ℕ} {begin from j m all word a : ℕ} → Part word all → KeptBy b begin from j m all a → KeptBy b begin from j m word (bitAnd a word)

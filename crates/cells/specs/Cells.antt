@@ -1,15 +1,15 @@
 -- The rows of one word, where they stand in the file, and what the two passes make of them.
 use mathlib.Core.Path.{_≡_}
-use mathlib.Core.Bool.{Bool, _&&_, cond, false, not, true}
+use mathlib.Core.Bool.{Bool, _&&_, not, true}
 use mathlib.Core.Logic.{_⊎_}
 use mathlib.Core.List.{List, [], _∷_}
-use Prim.Native.Nat.{_%_, _*_, _+_, _-_, _/_, _<_, _^_, _≤_, ℕ}
+use Prim.Native.Nat.{_%_, _*_, _+_, _/_, _<_, _^_, ℕ}
 use lib.Bits.{bitOr}
-use lib.Dec.{eqb, ltb}
+use lib.Dec.{ltb}
 use lib.ListN.{getD, length}
 use Rattle.model.specs.Books.{inDomain, isAny}
 use Rattle.model.specs.Masks.{bit}
-use Rattle.model.specs.Tests.{count, oneIf}
+use Rattle.model.specs.Tests.{allBelow}
 use Rattle.fields.specs.Bytes.{byteAt}
 
 -- where place j of row r stands, of a sheet whose rows begin at byte `begin`: each block has 127 rows of 4 bytes, and 4 bytes more
@@ -82,6 +82,18 @@ pub record WithAny (d m : ℕ) : Type 0 where
 pub record KeptBy (b : List ℕ) (begin from j m word r : ℕ) : Type 0 where
   pub at : (k : ℕ) → bit k r ≡ (bit k word && bit (cellAt b begin (from + k) j % 64) m)
 
+-- bit k of r says of row from + k, of n rows, whether its cell at place j is one of the places m
+pub record KeptRun (b : List ℕ) (begin from n j m r : ℕ) : Type 0 where
+  pub at : (k : ℕ) → bit k r ≡ (ltb k n && bit (cellAt b begin (from + k) j % 64) m)
+
+-- every cell of row r, by its last five bits, is in the set of its place
+unfoldable pub rowInside : List ℕ → ℕ → List ℕ → ℕ → Bool
+rowInside b begin x r = allBelow 4 (λ j. bit (cellAt b begin r j % 32) (getD x j 0))
+
+-- r is the word cut to the rows with every cell in its set
+pub record KeptInside (b : List ℕ) (begin from : ℕ) (x : List ℕ) (word r : ℕ) : Type 0 where
+  pub at : (k : ℕ) → bit k r ≡ (bit k word && rowInside b begin x (from + k))
+
 -- ---- pass 2
 -- a set for each of the four places
 abbrev pub fourOf : ℕ → ℕ → ℕ → ℕ → List ℕ
@@ -122,44 +134,3 @@ pub record RunOf (word n : ℕ) : Type 0 where
 -- the sets y have every value of the sets x
 pub record Covered (x y : List ℕ) : Type 0 where
   pub at : (j v : ℕ) → j < 4 → bit v (getD x j 0) ≡ true → bit v (getD y j 0) ≡ true
-
--- ---- counting the values of a forbidden sheet
---
---     entry   0 .. 31    32 .. 63    64 .. 95    96 .. 127          entry 32 j + v: how many rows have the value v at place j
---             place 0    place 1     place 2     place 3
-abbrev pub countAt : List ℕ → ℕ → ℕ → ℕ
-countAt C j v = getD C (32 * j + v) 0
-
--- 128 counts, none above n
-pub record Counts (n : ℕ) (C : List ℕ) : Type 0 where
-  pub size : length C ≡ 128
-  pub most : (i : ℕ) → getD C i 0 ≤ n
-
--- the four bytes of a row, at byte `at`, are bytes
-pub record RowBytes (b : List ℕ) (at : ℕ) : Type 0 where
-  pub there : at + 3 < length b
-  pub byte : (j : ℕ) → j < 4 → byteAt b (at + j) < 256
-
--- C′ are the counts C with one more at entry i
-pub record Raised (i : ℕ) (C C′ : List ℕ) : Type 0 where
-  pub size : length C′ ≡ 128
-  pub at : (k : ℕ) → getD C′ k 0 ≡ getD C k 0 + oneIf (eqb k i)
-
--- at how many places values are counted: at all four, or at the first two, which are enough for a sheet of width 2 or less
-abbrev pub placesOf : Bool → ℕ
-placesOf true = 4
-placesOf false = 2
-
--- C′ are the counts C and one more at each of these places for a row, `cell j` at place j
-pub record RowCounted (wide : Bool) (cell : ℕ → ℕ) (C C′ : List ℕ) : Type 0 where
-  pub size : length C′ ≡ 128
-  pub at : (j v : ℕ) → j < 4 → v < 32 → countAt C′ j v ≡ countAt C j v + cond (ltb j (placesOf wide)) (oneIf (eqb (cell j) v)) 0
-
--- how many rows of a word have the value v at place j, by the last five bits of their cells
-abbrev pub rowsWith : List ℕ → ℕ → ℕ → ℕ → ℕ → ℕ → ℕ
-rowsWith b begin from word j v = count 64 (λ k. bit k word && eqb (cellAt b begin (from + k) j % 32) v)
-
--- C′ are the counts C and the rows of a word
-pub record Counted (wide : Bool) (b : List ℕ) (begin from word : ℕ) (C C′ : List ℕ) : Type 0 where
-  pub size : length C′ ≡ 128
-  pub at : (j v : ℕ) → j < 4 → v < 32 → countAt C′ j v ≡ countAt C j v + cond (ltb j (placesOf wide)) (rowsWith b begin from word j v) 0

@@ -4,11 +4,15 @@
 use crate::bits::*;
 use crate::counter::*;
 ghost use mathlib.Core.Path.{_≡_};
+ghost use mathlib.Core.Bool.{cond};
 ghost use Prim.Native.Nat.{_+_, _*_, _-_, _%_, _^_, _<_, _≤_};
 ghost use lib.Bits.{bitOr};
-ghost use lib.ListN.{length};
+ghost use lib.Dec.{eqb};
+ghost use lib.ListN.{getD, length};
+ghost use Rattle.model.specs.Masks.{bit};
+ghost use Rattle.model.specs.Tests.{allBelow};
 ghost use Rattle.fields.specs.Bytes.{byteAt};
-ghost use Rattle.cells.specs.Cells.{nearPlace, AtRow, NearRows, Stretch, Readable, WithAny, Kept, KeptAny, KeptBy, fourOf, RowThere, RunOf, Gathered, GatheredRun, SmallSets, Joined};
+ghost use Rattle.cells.specs.Cells.{nearPlace, AtRow, NearRows, Stretch, Readable, WithAny, Kept, KeptAny, KeptBy, KeptInside, KeptRun, fourOf, RowThere, RunOf, Gathered, GatheredRun, SmallSets, Joined};
 
 // The place of 255: 255 % 64.
 const ANY: u64 = 9223372036854775808;
@@ -47,19 +51,60 @@ fn kept_set(book: &[u8], p: Counters, j: usize, m: u64, word: u64) -> u64
     keep
 }
 
+// Of the 64 places, lent as two halves, the one in which the place of the cell x is.
+fn half_for(low: u32, high: u32, x: u32) -> u32
+    ensures { λ r. ⌜ bit (x % 32) r ≡ bit (x % 64) (low + 2 ^ 32 * high) ⌝ }
+{
+    if x / 32 % 2 == 0 {
+        return low;
+    }
+    high
+}
+
+// The row at byte `at` from place j on: its lowest bits are those of the cell there.
+fn row_from(book: &[u8], at: usize, j: u32) -> u32
+    requires { ⌜ RowThere (now book) at × (j < 4) ⌝ }
+    ensures { λ r. ⌜ r % 64 ≡ byteAt (now (book .entry)) (at + j) % 64 ⌝ }
+{
+    fields::word_of(book[at], book[at + 1], book[at + 2], book[at + 3]) >> (8 * j)
+}
+
+// Row k added to `keep`, where v is in d.
+fn with_place(keep: u32, k: u32, d: u32, v: u32) -> u32
+    requires { ⌜ (k < 32) × (v < 32) ⌝ }
+    ensures { λ r. ⌜ r ≡ cond (bit v d) (bitOr keep (2 ^ k)) keep ⌝ }
+{
+    if d & only(v) == 0 {
+        return keep;
+    }
+    keep | only(k)
+}
+
+// The n rows from row `from` on, set or not. No row waits for the one before, and each is read as one number: so the compiler looks at four at a time.
+fn kept_run(book: &[u8], p: Counters, from: usize, n: u32, j: u32, low: u32, high: u32) -> u32
+    requires { ⌜ (j < 4) × (n ≤ 32) × (from + n ≤ 60) × Stretch (now book) (p .begin) (p .block) (p .row) (p .word) (p .bit) (p .at) (2 ^ 60 - 1) ⌝ }
+    ensures { λ r. ⌜ KeptRun (now (book .entry)) (p .begin) (64 * p .word + from) n j (low + 2 ^ 32 * high) r ⌝ }
+{
+    let mut keep: u32 = 0;
+    let mut k: u32 = 0;
+    while k < n {
+        let x = row_from(book, at_near(p, from + (k as usize)).at, j);
+        keep = with_place(keep, k, half_for(low, high, x), x % 32);
+        k += 1;
+    }
+    keep
+}
+
 // All 60, set or not, with no test.
 fn kept_all(book: &[u8], p: Counters, j: usize, m: u64) -> u64
     requires { ⌜ (j < 4) × Stretch (now book) (p .begin) (p .block) (p .row) (p .word) (p .bit) (p .at) (2 ^ 60 - 1) ⌝ }
     ensures { λ r. ⌜ KeptBy (now (book .entry)) (p .begin) (64 * p .word) j m (2 ^ 60 - 1) r ⌝ }
 {
-    let mut keep: u64 = 0;
-    let mut k: usize = 60;
-    while 0 < k {
-        k -= 1;
-        let at = at_near(p, k).at + j;
-        keep = keep + keep + has(m, fields::wide32(book[at]) % 64);
-    }
-    keep
+    let low = (m % 4294967296) as u32;
+    let high = (m / 4294967296) as u32;
+    let first = kept_run(book, p, 0, 32, j as u32, low, high) as u64;
+    let second = kept_run(book, p, 32, 28, j as u32, low, high) as u64;
+    first | (second << 32)
 }
 
 // Whether it is quicker to look at all rows than at those that are set: either gives the same.
@@ -119,6 +164,55 @@ pub fn kept_any(book: &[u8], begin: usize, w: usize, j: usize, word: u64) -> u64
     ensures { λ r. ⌜ KeptAny (now (book .entry)) begin (64 * w) j word r ⌝ }
 {
     kept_by(book, begin, w, j, ANY, word)
+}
+
+// ---- all places at once: the rows of a forbidden sheet whose every cell is in a set. No cell of it is 255: the cell x is looked up at x % 32
+
+// Whether the cell is in the set d, as 0 or 1.
+fn held(d: u32, cell: u8) -> u64
+    ensures { λ r. ⌜ (r < 2) × (eqb r 1 ≡ bit (cell % 32) d) ⌝ }
+{
+    has(d as u64, fields::wide32(cell) % 32)
+}
+
+// Whether every cell of the row at byte `at` is in the set of its place, as 0 or 1.
+fn inside(book: &[u8], at: usize, x: &[u32; 4]) -> u64
+    requires { ⌜ RowThere (now book) at ⌝ }
+    ensures { λ r. ⌜ (r < 2) × (eqb r 1 ≡ allBelow 4 (λ j. bit (byteAt (now (book .entry)) (at + j) % 32) (getD (now (x .entry)) j 0))) ⌝ }
+{
+    if held(x[0], book[at]) == 0 {
+        return 0;
+    }
+    if held(x[1], book[at + 1]) == 0 {
+        return 0;
+    }
+    if held(x[2], book[at + 2]) == 0 {
+        return 0;
+    }
+    held(x[3], book[at + 3])
+}
+
+// Rows anywhere in the word.
+fn inside_rows(book: &[u8], p: Counters, x: &[u32; 4], word: u64) -> u64
+    requires { ⌜ AtRow (64 * p .word) (p .begin) (p .block) (p .row) (p .word) (p .bit) (p .at) × Readable (now book) (p .begin) (64 * p .word) word ⌝ }
+    ensures { λ r. ⌜ KeptInside (now (book .entry)) (p .begin) (64 * p .word) (now (x .entry)) word r ⌝ }
+{
+    let mut left = word;
+    let mut keep: u64 = 0;
+    while left != 0 {
+        let i = lowest(left);
+        keep = keep | (inside(book, at_bit(p, i as usize).at, x) << i);
+        left = without_lowest(left);
+    }
+    keep
+}
+
+// The rows of word w.
+pub fn kept_inside(book: &[u8], begin: usize, w: usize, x: &[u32; 4], word: u64) -> u64
+    requires { ⌜ (w < 8) × Readable (now book) begin (64 * w) word × (nearPlace begin w < 2 ^ 64) ⌝ }
+    ensures { λ r. ⌜ KeptInside (now (book .entry)) begin (64 * w) (now (x .entry)) word r ⌝ }
+{
+    inside_rows(book, at_word(begin, w), x, word)
 }
 
 // ---- pass 2: the values at each of the four places. Of the cell x this is x % 32: 255 gives 31, which such a row does carry

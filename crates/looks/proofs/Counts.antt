@@ -1,11 +1,11 @@
 -- Laws of a forbidden sheet's values, counted by the words of its index: what is counted, the choices for the other places, and that a value has support exactly
 -- when it is not full. Assumes nothing.
 use mathlib.Core.Path.{_∙_, _≡_, ap, ap₂, refl, sym}
-use mathlib.Core.Bool.{Bool, _&&_, _||_, cond, false, not, true, true≢false}
-use mathlib.Core.Logic.{_⊎_, inl, inr, ⊎-elim}
+use mathlib.Core.Bool.{Bool, _&&_, cond, false, not, or-false, true}
+use mathlib.Core.Logic.{_⊎_, inl, inr}
 use mathlib.Core.List.{List, [], _∷_}
 use Prim.Native.Nat.{_%_, _*_, _+_, _/_, _<_, _^_, _≤_, suc, zero, ℕ}
-use native.Mathlib.Nat.{mul-assoc, mul-le-mul, mul-one, one-mul}
+use native.Mathlib.Nat.{mul-assoc, mul-one}
 use native.Mathlib.Numerals.{add-one}
 use native.Mathlib.Omega.{arith}
 use lib.Bits.{bitOr}
@@ -14,26 +14,27 @@ use lib.Dec.{eqb, ltb}
 use lib.ListN.{List·getD-eq-default, getD, length, length-replicate, length-set, replicate, set}
 use lib.Seq.{ext-getD, getD-set-other, getD-set-same}
 use borrow.Author.Tests.{eq-eqb, eqb-false, eqb-true, lt-ltb, ne-eqb, not-true}
-use Rattle.model.specs.Books.{Sheet, isAny, sheetAt, supportedIn}
+use Rattle.model.specs.Books.{Sheet, sheetAt, supportedIn}
 use Rattle.model.specs.Choices.{pick, space, spaceBut}
 use Rattle.model.specs.Masks.{Cleared, bit, size}
-use Rattle.model.specs.States.{choicesBut, ofSheet, validRow}
+use Rattle.model.specs.States.{choicesBut, ofSheet}
 use Rattle.model.specs.Stores.{IsStore, has}
 use Rattle.model.specs.Tests.{count, sum, tab}
 use Rattle.model.proofs.Choices.{getD-pick, length-pick}
 use Rattle.model.proofs.Counting.{Numbered, counted-from, counted-most, counted-to}
-use Rattle.model.proofs.Masks.{bit-below, bit-high, bit-of-zero, bit-or, bit-pow, bit-pow-other}
+use Rattle.model.proofs.Masks.{bit-high, bit-of-zero, bit-or, bit-pow, bit-pow-other}
 use Rattle.model.proofs.Settling.{supported-iff}
-use Rattle.model.proofs.Tallies.{count-le, count-more, count-most, count-ones, count-same}
-use Rattle.model.proofs.Tests.{and-i, and-l, and-r, and-true, below, either, getD-tab, length-tab, none-count, same-test, zeros-at}
+use Rattle.model.proofs.Tallies.{count-le, count-more, count-ones, count-same}
+use Rattle.model.proofs.Tests.{and-i, and-l, and-r, and-true, below, either, getD-tab, length-tab, or-r, same-test, zeros-at}
 use Rattle.book.specs.Decoding.{bookOf}
-use Rattle.heads.specs.Heads.{columnOf, forbidsOf, valuesOf, widthOf}
-use Rattle.cells.specs.Cells.{Counted, Counts, SmallSets, cellAt, countAt, placesOf, rowsWith}
-use Rattle.cells.proofs.Tallies.{rows-most}
+use Rattle.heads.specs.Heads.{columnOf, forbidsOf, widthOf}
+use Rattle.cells.specs.Cells.{SmallSets, cellAt}
+use Rattle.tally.specs.Tallies.{Counted, Counts, countAt, placesOf, rowsWith}
+use Rattle.tally.proofs.Tallies.{places-fit, rows-most}
 use Rattle.cells.proofs.Walks.{Part, four-all}
 use Rattle.words.specs.Sheets.{AtSheet, FindsSupported, RowsAre, SheetWords, Sized, Wanted, firstByte, isSet, rowsTo, valueAt}
 use Rattle.words.proofs.Gathers.{at-position, word-row}
-use Rattle.words.proofs.Places.{cell-value, column-value, columns-size, formed, row-value, rows-few, sheet-forbids, sheet-in, valid-e, values-few, width-most}
+use Rattle.words.proofs.Places.{column-value, columns-size, formed, row-value, rows-few, sheet-forbids, sheet-in, valid-e, width-most, forbidden-value}
 use Rattle.words.proofs.Indexes.{passes}
 use Rattle.looks.specs.Counts.{CountsTo, Fewer, NoneAbove, NotFull, NotFullTo, Others, SameSets, Unfilled, othersOf, valuesTo}
 
@@ -47,22 +48,22 @@ cond-zero : (t : Bool) → _≡_ {A = ℕ} 0 (cond t 0 0)
 cond-zero true = refl
 cond-zero false = refl
 
-pub counts-none : (wide : Bool) (b : List ℕ) (s : ℕ) (W X : List ℕ) {C : List ℕ} → C ≡ replicate 128 0 → CountsTo wide b s W X 0 C
+pub counts-none : (k : ℕ) (b : List ℕ) (s : ℕ) (W X : List ℕ) {C : List ℕ} → C ≡ replicate 128 0 → CountsTo k b s W X 0 C
 unfolding valuesTo
-counts-none wide b s W X e = record {
+counts-none k b s W X e = record {
   size = ap length e ∙ length-replicate {A = ℕ} 128 0;
-  at = λ j v l m. ap (λ (x : List ℕ). countAt x j v) e ∙ zeros-at 128 (32 * j + v) ∙ cond-zero (ltb j (placesOf wide));
+  at = λ j v l m. ap (λ (x : List ℕ). countAt x j v) e ∙ zeros-at 128 (32 * j + v) ∙ cond-zero (ltb j (placesOf k));
 }
 
-pub counts-more : {wide : Bool} {b : List ℕ} {begin s p w word : ℕ} {W X C C′ : List ℕ} → begin ≡ firstByte b s → w ≡ ofSheet X s p → word ≡ ofSheet W s w
-    → CountsTo wide b s W X p C → Counted wide b begin (64 * w) word C C′ → CountsTo wide b s W X (p + 1) C′
-counts-more {wide} {b} {begin} {s} {p} {w} {word} {W} {X} eb ew eo h g = record {
+pub counts-more : {k : ℕ} {b : List ℕ} {begin s p w word : ℕ} {W X C C′ : List ℕ} → begin ≡ firstByte b s → w ≡ ofSheet X s p → word ≡ ofSheet W s w
+    → CountsTo k b s W X p C → Counted k b begin (64 * w) word C C′ → CountsTo k b s W X (p + 1) C′
+counts-more {k} {b} {begin} {s} {p} {w} {word} {W} {X} eb ew eo h g = record {
   size = g .size;
   at = λ j v l m.
       g .at j v l m
-      ∙ ap (λ (n : ℕ). n + cond (ltb j (placesOf wide)) (rowsWith b begin (64 * w) word j v) 0) (h .at j v l m)
-      ∙ both (ltb j (placesOf wide)) (valuesTo b s W X j v p) (rowsWith b begin (64 * w) word j v)
-      ∙ ap (λ (n : ℕ). cond (ltb j (placesOf wide)) n 0) (more j v);
+      ∙ ap (λ (n : ℕ). n + cond (ltb j (placesOf k)) (rowsWith b begin (64 * w) word j v) 0) (h .at j v l m)
+      ∙ both (ltb j (placesOf k)) (valuesTo b s W X j v p) (rowsWith b begin (64 * w) word j v)
+      ∙ ap (λ (n : ℕ). cond (ltb j (placesOf k)) n 0) (more j v);
 }
   where
     both : (t : Bool) (m n : ℕ) → cond t m 0 + cond t n 0 ≡ cond t (m + n) 0
@@ -83,13 +84,13 @@ cond-most : (t : Bool) (n : ℕ) → cond t n 0 ≤ n
 cond-most true n = omega arith
 cond-most false n = omega arith
 
-pub counts-room : {wide : Bool} {b : List ℕ} {s p : ℕ} {W X C : List ℕ} → CountsTo wide b s W X p C → p < 8 → Counts 448 C
-counts-room {wide} {b} {s} {p} {W} {X} {C} h l = record { size = h .size; most = λ i. go i (below i 128) }
+pub counts-room : {k : ℕ} {b : List ℕ} {s p : ℕ} {W X C : List ℕ} → CountsTo k b s W X p C → p < 8 → Counts 448 C
+counts-room {k} {b} {s} {p} {W} {X} {C} h l = record { size = h .size; most = λ i. go i (below i 128) }
   where
     go : (i : ℕ) → (i < 128) ⊎ (128 ≤ i) → getD C i 0 ≤ 448
     go i (inl m) =
         let z : 32 * (i / 32) + i % 32 ≡ i = omega arith in
-        omega (arith, rw z at (h .at (i / 32) (i % 32) (omega arith) (omega arith)), values-most b s W X (i / 32) (i % 32) p, cond-most (ltb (i / 32) (placesOf wide)) (valuesTo b s W X (i / 32) (i % 32) p))
+        omega (arith, rw z at (h .at (i / 32) (i % 32) (omega arith) (omega arith)), values-most b s W X (i / 32) (i % 32) p, cond-most (ltb (i / 32) (placesOf k)) (valuesTo b s W X (i / 32) (i % 32) p))
     go i (inr m) = omega (arith, List·getD-eq-default C 0 {n = i} (omega (arith, h .size)))
 
 -- no more rows have a value than are set
@@ -105,10 +106,10 @@ values-rows {W} {X} z b s j v (suc n) =
       count-le 64 (λ k. bit k word && eqb (cellAt b (firstByte b s) (64 * ofSheet X s n + k) j % 32) v) (λ k. bit k word) (λ k l e. and-l (bit k word) _ e),
     )
 
-pub none-above : {wide : Bool} {b : List ℕ} {s n rows : ℕ} {W X N C : List ℕ} → Sized W X N → CountsTo wide b s W X n C → rows ≡ rowsTo W X s n → NoneAbove rows C
-none-above {wide} {b} {s} {n} {W = W} {X = X} z h e = record {
+pub none-above : {k : ℕ} {b : List ℕ} {s n rows : ℕ} {W X N C : List ℕ} → Sized W X N → CountsTo k b s W X n C → rows ≡ rowsTo W X s n → NoneAbove rows C
+none-above {k} {b} {s} {n} {W = W} {X = X} z h e = record {
   size = h .size;
-  at = λ j v l m. omega (arith, h .at j v l m, values-rows z b s j v n, cond-most (ltb j (placesOf wide)) (valuesTo b s W X j v n));
+  at = λ j v l m. omega (arith, h .at j v l m, values-rows z b s j v n, cond-most (ltb j (placesOf k)) (valuesTo b s W X j v n));
 }
 
 -- ---- the values of a place that are not full
@@ -139,11 +140,7 @@ keeping-turn {C} {j} {choices} {d} {left} {next} {keep} {keep′} {v} h p c e = 
     go u (inl z) (inr f) =
         let y : u ≡ v = eqb-true u v z in
         let k : keep′ ≡ bitOr keep (2 ^ v) = e ∙ rw f in
-        rw (y, k, f, here, c .gone, bit-or v keep (2 ^ v), bit-pow v) (or-true (bit v keep))
-      where
-        or-true : (t : Bool) → (t || true) ≡ true
-        or-true true = refl
-        or-true false = refl
+        rw (y, k, f, here, c .gone, bit-or v keep (2 ^ v), bit-pow v) (or-r (bit v keep) true refl)
     go u (inr z) (inl f) =
         let n : u ≡ v → ⊥ = eqb-false u v z in
         let k : keep′ ≡ keep = e ∙ rw f in
@@ -152,10 +149,6 @@ keeping-turn {C} {j} {choices} {d} {left} {next} {keep} {keep′} {v} h p c e = 
         let n : u ≡ v → ⊥ = eqb-false u v z in
         let k : keep′ ≡ bitOr keep (2 ^ v) = e ∙ rw f in
         rw (k, c .rest u n, bit-or u keep (2 ^ v), bit-pow-other v u n) (or-false (bit u keep) ∙ h .at u)
-      where
-        or-false : (t : Bool) → (t || false) ≡ t
-        or-false true = refl
-        or-false false = refl
 
 pub keeping-end : {C : List ℕ} {j choices d keep : ℕ} → Keeping C j choices d 0 keep → NotFull C j choices d keep
 keeping-end {C} {j} {choices} {d} h = record { at = λ v. h .at v ∙ rw (bit-of-zero v) (ap (λ (t : Bool). t && not (eqb (countAt C j v) choices)) (and-true (bit v d))) }
@@ -186,17 +179,16 @@ past : {x : List ℕ} → SmallSets x → (j v : ℕ) → 32 ≤ v → (t : Bool
 past {x} small j v l t = rw (bit-high 32 (getD x j 0) v (small .fits j) l)
 
 module _ {b : List ℕ} {s n : ℕ} {W X N x y : List ℕ} (z : Sized W X N) (small : SmallSets x) where
-  pub unfilled-counted : (wide : Bool) {C o : List ℕ} → CountsTo wide b s W X n C → Others x o → NotFullTo C o x 4 y → Unfilled b s W X n x (placesOf wide) y
-  unfilled-counted wide {C} {o} c q h = record { at = λ j v l. h .at j v (four wide j l) ∙ go j v (four wide j l) l (below v 32) }
+  pub unfilled-counted : (k : ℕ) {C o : List ℕ} → CountsTo k b s W X n C → Others x o → NotFullTo C o x 4 y → Unfilled b s W X n x (placesOf k) y
+  unfilled-counted k {C} {o} c q h = record { at = λ j v l. h .at j v (four j l) ∙ go j v (four j l) l (below v 32) }
     where
-      four : (t : Bool) (j : ℕ) → j < placesOf t → j < 4
-      four true j l = l
-      four false j l = omega arith
+      four : (j : ℕ) → j < placesOf k → j < 4
+      four j l = omega (arith, places-fit k .0)
 
-      go : (j v : ℕ) → j < 4 → j < placesOf wide → (v < 32) ⊎ (32 ≤ v) → (bit v (getD x j 0) && not (eqb (countAt C j v) (getD o j 0)))
+      go : (j v : ℕ) → j < 4 → j < placesOf k → (v < 32) ⊎ (32 ≤ v) → (bit v (getD x j 0) && not (eqb (countAt C j v) (getD o j 0)))
           ≡ (bit v (getD x j 0) && not (eqb (valuesTo b s W X j v n) (othersOf x j)))
-      go j v l k (inl m) = rw (c .at j v l m, lt-ltb j (placesOf wide) k, q .at j l)
-      go j v l k (inr m) = past small j v m (not (eqb (countAt C j v) (getD o j 0))) ∙ sym (past small j v m (not (eqb (valuesTo b s W X j v n) (othersOf x j))))
+      go j v l i (inl m) = rw (c .at j v l m, lt-ltb j (placesOf k) i, q .at j l)
+      go j v l i (inr m) = past small j v m (not (eqb (countAt C j v) (getD o j 0))) ∙ sym (past small j v m (not (eqb (valuesTo b s W X j v n) (othersOf x j))))
 
   pub unfilled-few : {m : ℕ} {o : List ℕ} → Others x o → rowsTo W X s n ≤ m → Fewer m o → SameSets x y → Unfilled b s W X n x 4 y
   unfilled-few {m} {o} q l f e = record { at = λ j v k. ap (bit v) (e .at j k) ∙ go j v k }
@@ -264,15 +256,9 @@ module _ {b : List ℕ} {begin s : ℕ} (a : AtSheet b begin s) where
     abbrev with : ℕ → ℕ → ℕ → Bool
     with j v q = passes (h .sized) s q && eqb (valueAt b s (rowOf q) j % 32) v
 
-    -- a value of the sheet is below 32, and no 255
+    -- a value of the sheet is its last five bits
     low : (q j : ℕ) → q < 512 → isSet W s q ≡ true → j < widthOf b s → valueAt b s q j % 32 ≡ valueAt b s q j
-    low q j l e m =
-        let n = h .inside .at q l e in
-        go (rw (a .begins) at (cell-value a q j n m))
-      where
-        go : ((forbidsOf b s ≡ false) × (isAny (valueAt b s q j) ≡ true)) ⊎ (valueAt b s q j < valuesOf b (columnOf b s j)) → valueAt b s q j % 32 ≡ valueAt b s q j
-        go (inl t) = absurd (true≢false (sym f ∙ t .0))
-        go (inr t) = omega (arith, values-few a j m)
+    low q j l e m = let v = forbidden-value a f q j (h .inside .at q l e) m in omega arith
 
     values-count : (j v n : ℕ) → count (64 * n) (with j v) ≡ valuesTo b s W X j v n
     unfolding valuesTo count sum

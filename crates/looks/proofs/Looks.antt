@@ -8,26 +8,27 @@ use Prim.Native.Nat.{_%_, _*_, _+_, _/_, _<_, _≤_, ℕ}
 use native.Mathlib.Omega.{arith}
 use lib.Dec.{eqb}
 use lib.ListN.{getD, length}
-use borrow.Author.Tests.{eq-eqb}
+use borrow.Author.Tests.{eq-eqb, ne-eqb}
 use Rattle.model.specs.Books.{Sheet, inDomain, matches, supportedIn, sheetAt}
 use Rattle.model.specs.Masks.{bit}
 use Rattle.model.specs.States.{ofSheet, validRow, validWord}
 use Rattle.model.specs.Stores.{IsStore, Within, has}
 use Rattle.model.specs.Tests.{allBelow}
-use Rattle.model.proofs.Books.{in-domain-e, in-domain-i, place-or-none, support-e, support-i}
+use Rattle.model.proofs.Books.{in-domain-e, in-domain-i, support-e}
 use Rattle.model.proofs.Masks.{bit-of-zero, some-bit}
 use Rattle.model.proofs.Rows.{supportsByRows, word-row, word-same}
 use Rattle.model.proofs.Settling.{settles-failed, settles-filled, settles-seen}
-use Rattle.model.proofs.Tests.{allBelow-e, allBelow-i, and-i, and-l, and-r, either, or-r, positive, same-test}
+use Rattle.model.proofs.Tests.{allBelow-e, allBelow-i, and-i, and-l, and-r, below, either, or-r, positive, same-test}
 use Rattle.book.specs.Decoding.{bookOf}
-use Rattle.heads.specs.Heads.{columnOf, forbidsOf, widthOf}
-use Rattle.words.specs.Sheets.{AtSheet, CutBy, IndexOf, OnlySheet, RowsAre, RowsKnown, Sized, isSet, passesAt, passesBelow, valueAt}
-use Rattle.words.proofs.Cuts.{cut-words, only-more, row-word}
+use Rattle.heads.specs.Heads.{columnOf, forbidsOf, rowsOf, widthOf}
+use Rattle.cells.specs.Cells.{rowInside}
+use Rattle.words.specs.Sheets.{AtSheet, CutBy, IndexOf, OnlySheet, RowsAre, RowsKnown, Sized, Wanted, isSet, passesAt, passesBelow, valueAt}
+use Rattle.words.proofs.Cuts.{cut-words, row-word}
 use Rattle.words.proofs.Gathers.{row-given, row-gives}
 use Rattle.words.proofs.Indexes.{past-limit}
-use Rattle.words.proofs.Places.{column-value, columns-size, formed, row-value, rows-few, sheet-forbids, sheet-in, valid-e, valid-i, width-most}
+use Rattle.words.proofs.Places.{column-value, columns-size, forbidden-value, formed, row-value, rows-few, sheet-forbids, sheet-in, unused-value, valid-e, valid-i, width-most}
 use Rattle.looks.specs.Looks.{Revised, Seen, SheetKnown, Struck}
-use Rattle.looks.proofs.Strikes.{loses-none}
+use Rattle.looks.proofs.Strikes.{each-column, loses-none}
 
 -- ---- an empty column, and one that is not
 pub none-in : (D : List ℕ) {c k : ℕ} → c ≡ k → getD D c 0 ≡ 0 → (v : ℕ) → has D k v ≡ true → ⊥
@@ -153,6 +154,43 @@ module _ {b : List ℕ} {begin s : ℕ} (a : AtSheet b begin s) where
       seen = λ r j l e m q. rw (p .loses .unchanged (columnOf b s j) q) (h .seen r j l e m (bit-of-zero (columnOf b s j)));
     }
 
+  -- ---- a sheet that forbids its rows
+  module _ (f : forbidsOf b s ≡ true) {D x : List ℕ} (w : Wanted b s D (widthOf b s) x) where
+    -- a cell is looked up in its column's domain
+    cell-in : (r j : ℕ) → r < rowsOf b s → j < widthOf b s → bit (valueAt b s r j % 32) (getD x j 0) ≡ inDomain (valueAt b s r j) (getD D (columnOf b s j) 0)
+    unfolding inDomain
+    cell-in r j l m =
+        let v = forbidden-value a f r j l m in
+        let z : valueAt b s r j % 32 ≡ valueAt b s r j = omega arith in
+        rw (z, w .at j m, ne-eqb (valueAt b s r j) 255 (λ e. omega arith)) refl
+
+    -- at a place that is not used it is the 0 that is wanted there
+    unused-in : (r j : ℕ) → r < rowsOf b s → widthOf b s ≤ j → j < 4 → bit (valueAt b s r j % 32) (getD x j 0) ≡ true
+    unfolding bit
+    unused-in r j l m n = rw (unused-value a r j l m n, w .rest j m n) refl
+
+    -- the rows cut to those with every cell in its domain are the valid ones
+    pub inside-known : {lost : ℕ} {W X N W′ X′ N′ : List ℕ} → RowsKnown b s lost D W X N → CutBy (rowInside b begin x) s W X N W′ X′ N′ → RowsKnown b s 0 D W′ X′ N′
+    unfolding rowInside
+    inside-known {W = W} {W′ = W′} h c = record {
+      words = cut-words c (h .words);
+      all = λ r l e.
+          let v = valid-e a D r e in
+          cut-at r l ∙ and-i (h .all r l e) (allBelow-i 4 (λ j. bit (valueAt b s r j % 32) (getD x j 0)) (λ j m. each r j (v .0) m (v .1 j) (below j (widthOf b s))));
+      seen = λ r j l e m z.
+          let i = sym (cut-at r l) ∙ e in
+          sym (cell-in r j (h .words .inside .at r l (and-l (isSet W s r) _ i)) m)
+          ∙ allBelow-e 4 (λ j. bit (valueAt b s r j % 32) (getD x j 0)) (and-r (isSet W s r) _ i) j (omega (arith, m, width-most a .1));
+    }
+      where
+        cut-at : (r : ℕ) → r < 512 → isSet W′ s r ≡ (isSet W s r && allBelow 4 (λ j. bit (valueAt b s r j % 32) (getD x j 0)))
+        cut-at r l = rw (a .begins) at (c .at r l)
+
+        each : (r j : ℕ) → r < rowsOf b s → j < 4 → (j < widthOf b s → inDomain (valueAt b s r j) (getD D (columnOf b s j) 0) ≡ true) → (j < widthOf b s) ⊎ (widthOf b s ≤ j)
+            → bit (valueAt b s r j % 32) (getD x j 0) ≡ true
+        each r j l m g (inl k) = cell-in r j l k ∙ g k
+        each r j l m g (inr k) = unused-in r j l k m
+
   -- ---- a sheet that allows its rows
   module _ (plain : forbidsOf b s ≡ false) {D W X N W′ X′ N′ : List ℕ} (d : IsStore 16 D) (h : RowsKnown b s 0 D W′ X′ N′) (o : OnlySheet s W X N W′ X′ N′) where
     -- a row that is set is valid
@@ -190,7 +228,7 @@ module _ {b : List ℕ} {begin s : ℕ} (a : AtSheet b begin s) where
     revised-same {changed} {opening} k f same = record {
       loses = loses-none d;
       struck = λ c v e. inl e;
-      seen = λ t. seen-rows h (λ c v e. still c v e (place-or-none (sheet .columns) c));
+      seen = λ t. seen-rows h (each-column a d D own);
       filled = λ t c v e. (v, e);
       failed = λ t. absurd (false≢true (sym t));
       indexed = h .words .indexed;
@@ -207,16 +245,6 @@ module _ {b : List ℕ} {begin s : ℕ} (a : AtSheet b begin s) where
             let m : u .row < 512 = omega (arith, n, rows-few a) in
             let y : isSet W′ s (u .row) ≡ true = rw same (set-valid (k .saw) W (k .seen .rows) (u .row) m ∙ u .is-valid) in
             row-gives a plain d (u .row) j v l (set-row (u .row) m y) (ap (λ (x : ℕ). matches x v) (sym (row-value a (u .row) j n l)) ∙ u .value) e
-
-        still : (c v : ℕ) → has D c v ≡ true
-            → ((i : ℕ) × (i < length (sheetAt (bookOf b) s .columns)) × (getD (sheetAt (bookOf b) s .columns) i 0 ≡ c))
-            ⊎ ((i : ℕ) → i < length (sheetAt (bookOf b) s .columns) → getD (sheetAt (bookOf b) s .columns) i 0 ≡ c → ⊥)
-            → supportedIn D c v (sheetAt (bookOf b) s) ≡ true
-        still c v e (inl (i, l, q)) =
-            let j : i < widthOf b s = omega (arith, columns-size a) in
-            let z : columnOf b s i ≡ c = sym (column-value a i j) ∙ q in
-            rw z at (own i v j (rw z e))
-        still c v e (inr n) = support-i D (d .bits) sheet c v (λ i l q. absurd (n i l q))
 
     -- ---- columns are struck
     module _ {E : List ℕ} {lost : ℕ} (p : Struck b s D E lost) where
@@ -254,47 +282,6 @@ module _ {b : List ℕ} {begin s : ℕ} (a : AtSheet b begin s) where
           let r = some-row (positive _ some) in
           let u = still (r .0) 0 (r .1) (r .2) (width-most a .0) in
           revised-struck d p o after (u .0) (u .1)
-
--- ---- the rounds of a look
--- the first: all is as it was. The second, of a forbidden sheet: its columns are struck, and its rows have not seen that
-pub data Round (b : List ℕ) (s changed : ℕ) (D W X N : List ℕ) (unseen lost round : ℕ) (E W′ X′ N′ : List ℕ) : Type 0 where
-  first : round ≡ 0 → unseen ≡ changed → E ≡ D → W′ ≡ W → X′ ≡ X → N′ ≡ N → Round b s changed D W X N unseen lost round E W′ X′ N′
-  second : round ≡ 1 → unseen ≡ lost → Struck b s D E lost → RowsKnown b s lost E W′ X′ N′ → OnlySheet s W X N W′ X′ N′ → (w : ℕ) → has E (columnOf b s 0) w ≡ true
-      → Round b s changed D W X N unseen lost round E W′ X′ N′
-
-module _ {b : List ℕ} {s changed : ℕ} {D W X N : List ℕ} {unseen lost round : ℕ} {E W′ X′ N′ : List ℕ} where
-  pub round-store : IsStore 16 D → Round b s changed D W X N unseen lost round E W′ X′ N′ → IsStore 16 E
-  round-store d (first z u e f g h) = rw e d
-  round-store d (second z u p k o w t) = p .loses .store
-
-  pub round-known : RowsKnown b s changed D W X N → Round b s changed D W X N unseen lost round E W′ X′ N′ → RowsKnown b s unseen E W′ X′ N′
-  round-known k (first z u e f g h) = rw (u, e, f, g, h) k
-  round-known k (second z u p q o w t) = rw u q
-
-  -- what is true of the first round is true of the look
-  pub round-first : Round b s changed D W X N unseen lost round E W′ X′ N′ → (round ≡ 1 → ⊥) → {F W″ X″ N″ : List ℕ} {r : Bool} {l : ℕ}
-      → ((opening : Bool) → SheetKnown b s changed opening D W X N → SheetKnown b s changed opening E W′ X′ N′)
-      × (Revised b s E W′ X′ N′ F W″ X″ N″ r l → Revised b s D W X N F W″ X″ N″ r l)
-      × (round ≡ 0) × (Struck b s E F l → Struck b s D F l) × (OnlySheet s W′ X′ N′ W″ X″ N″ → OnlySheet s W X N W″ X″ N″)
-  round-first (first z u e f g h) n = (λ o k. rw (e, f, g, h) k, λ t. rw (← e, ← f, ← g, ← h) t, z, λ t. rw (← e) t, λ t. rw (← f, ← g, ← h) t)
-  round-first (second z u p k o w t) n = absurd (n z)
-
-pub round-start : (b : List ℕ) (s changed : ℕ) (D W X N : List ℕ) (lost : ℕ) → Round b s changed D W X N changed lost 0 D W X N
-round-start b s changed D W X N lost = first refl refl refl refl refl refl
-
--- the second round ends with the rows that are valid in what is left
-pub round-second : {b : List ℕ} {begin s : ℕ} (a : AtSheet b begin s) {changed unseen lost round : ℕ} {D W X N E W′ X′ N′ W″ X″ N″ : List ℕ} → IsStore 16 D
-    → Round b s changed D W X N unseen lost round E W′ X′ N′ → round ≡ 1 → CutBy (passesBelow b s unseen E (widthOf b s)) s W′ X′ N′ W″ X″ N″
-    → Revised b s D W X N E W″ X″ N″ true lost
-round-second a d (first z u e f g h) q c = absurd (omega arith)
-round-second a {lost = lost} {E = E} d (second z u p k o w t) q c =
-    let c′ = rw u at c in
-    revised-struck a d p (only-more o (c .only)) (cut-known a lost E k c′) w t
-
--- there are two rounds at most
-pub past : {b : List ℕ} {s changed unseen lost round : ℕ} {D W X N E W′ X′ N′ : List ℕ} → Round b s changed D W X N unseen lost round E W′ X′ N′ → 2 ≤ round → ⊥
-past (first z u e f g h) l = omega arith
-past (second z u p k o w t) l = omega arith
 
 -- as the code tests it: the sheet allows its rows, and goes on, so some word is left
 pub some-there : (forbids : Bool) {n : ℕ} → forbids ≡ false → not (forbids || not (eqb n 0)) ≡ false → n ≡ 0 → ⊥

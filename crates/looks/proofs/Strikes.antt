@@ -134,6 +134,21 @@ module _ {b : List ℕ} {s : ℕ} (y : List ℕ) {D : List ℕ} where
       go j v m e (inl l) k = p .left j v l m (q .loses .within .at (columnOf b s j) v e)
       go j v m e (inr l) k = let z : j ≡ n = omega arith in rw z (q .left v (rw z at m) (rw z at e))
 
+-- values with support at the places of the sheet have support in every column: in the others all have
+pub each-column : {b : List ℕ} {begin s : ℕ} → AtSheet b begin s → {D : List ℕ} → IsStore 16 D → (E : List ℕ)
+    → ((j v : ℕ) → j < widthOf b s → has E (columnOf b s j) v ≡ true → supportedIn D (columnOf b s j) v (sheetAt (bookOf b) s) ≡ true)
+    → (c v : ℕ) → has E c v ≡ true → supportedIn D c v (sheetAt (bookOf b) s) ≡ true
+each-column {b} {begin} {s} a {D} d E own c v e = go (place-or-none (sheetAt (bookOf b) s .columns) c)
+  where
+    go : ((i : ℕ) × (i < length (sheetAt (bookOf b) s .columns)) × (getD (sheetAt (bookOf b) s .columns) i 0 ≡ c))
+        ⊎ ((i : ℕ) → i < length (sheetAt (bookOf b) s .columns) → getD (sheetAt (bookOf b) s .columns) i 0 ≡ c → ⊥)
+        → supportedIn D c v (sheetAt (bookOf b) s) ≡ true
+    go (inl (i, l, q)) =
+        let j : i < widthOf b s = omega (arith, columns-size a) in
+        let z : columnOf b s i ≡ c = sym (column-value a i j) ∙ q in
+        rw z at (own i v j (rw z e))
+    go (inr n) = support-i D (d .bits) (sheetAt (bookOf b) s) c v (λ i l q. absurd (n i l q))
+
 -- the sets are the values with support
 pub struck-all-places : {b : List ℕ} {begin s : ℕ} → AtSheet b begin s → {W x y D E : List ℕ} {lost : ℕ} → IsStore 16 D
     → Wanted b s D (widthOf b s) x → RowsAre b s D W → FindsSupported b s W x y → StruckTo b s (widthOf b s) y D E lost → Struck b s D E lost
@@ -144,7 +159,7 @@ struck-all-places {b} {begin} {s} a {W} {x} {y} {D} {E} d w r h p =
           record {
             within = p .loses .within;
             struck = λ c v e. go c v e (p .struck c v e);
-            left = λ c v e. left c v e (place-or-none (sheetAt (bookOf b) s .columns) c);
+            left = each-column a d E left;
           };
     }
   where
@@ -154,13 +169,5 @@ struck-all-places {b} {begin} {s} a {W} {x} {y} {D} {E} d w r h p =
     go c v e (inl f) = inl f
     go c v e (inr (j, m, l, q, f)) = inr (rw q at (sym (h .at D d w r j v l (rw q e)) ∙ f))
 
-    left : (c v : ℕ) → has E c v ≡ true
-        → ((i : ℕ) × (i < length (sheetAt (bookOf b) s .columns)) × (getD (sheetAt (bookOf b) s .columns) i 0 ≡ c))
-        ⊎ ((i : ℕ) → i < length (sheetAt (bookOf b) s .columns) → getD (sheetAt (bookOf b) s .columns) i 0 ≡ c → ⊥)
-        → supportedIn D c v (sheetAt (bookOf b) s) ≡ true
-    left c v e (inl (i, l, q)) =
-        let j : i < widthOf b s = omega (arith, columns-size a) in
-        let z : columnOf b s i ≡ c = sym (column-value a i j) ∙ q in
-        let there : has E (columnOf b s i) v ≡ true = rw z e in
-        rw z at (sym (h .at D d w r i v j (p .loses .within .at (columnOf b s i) v there)) ∙ p .left i v j j there)
-    left c v e (inr n) = support-i D (d .bits) (sheetAt (bookOf b) s) c v (λ i l q. absurd (n i l q))
+    left : (j v : ℕ) → j < widthOf b s → has E (columnOf b s j) v ≡ true → supportedIn D (columnOf b s j) v (sheetAt (bookOf b) s) ≡ true
+    left j v l e = sym (h .at D d w r j v l (p .loses .within .at (columnOf b s j) v e)) ∙ p .left j v l l e

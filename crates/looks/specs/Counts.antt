@@ -2,14 +2,14 @@
 --
 -- Names: W, X, N are the arrays of words, index positions and counts of words that are not zero, C the counts of values, x the sets of the four places.
 use mathlib.Core.Path.{_≡_}
-use mathlib.Core.Bool.{Bool, _&&_, cond, not}
+use mathlib.Core.Bool.{_&&_, cond, not}
 use mathlib.Core.List.{List}
 use Prim.Native.Nat.{_*_, _+_, _<_, _≤_, suc, zero, ℕ}
 use lib.Dec.{eqb, ltb}
 use lib.ListN.{getD, length}
 use Rattle.model.specs.Masks.{bit, size}
 use Rattle.model.specs.States.{ofSheet}
-use Rattle.cells.specs.Cells.{countAt, placesOf, rowsWith}
+use Rattle.tally.specs.Tallies.{countAt, placesOf, rowsWith}
 use Rattle.words.specs.Sheets.{firstByte}
 
 -- how many rows that are set have the value v at place j, in the words at the positions below n of the index of sheet s
@@ -17,10 +17,10 @@ unfoldable pub valuesTo : List ℕ → ℕ → List ℕ → List ℕ → ℕ →
 valuesTo b s W X j v zero = 0
 valuesTo b s W X j v (suc n) = valuesTo b s W X j v n + rowsWith b (firstByte b s) (64 * ofSheet X s n) (ofSheet W s (ofSheet X s n)) j v
 
--- C has them, at all four places or at the first two
-pub record CountsTo (wide : Bool) (b : List ℕ) (s : ℕ) (W X : List ℕ) (n : ℕ) (C : List ℕ) : Type 0 where
+-- C has them, at as many places as are counted for a sheet of width k
+pub record CountsTo (k : ℕ) (b : List ℕ) (s : ℕ) (W X : List ℕ) (n : ℕ) (C : List ℕ) : Type 0 where
   pub size : length C ≡ 128
-  pub at : (j v : ℕ) → j < 4 → v < 32 → countAt C j v ≡ cond (ltb j (placesOf wide)) (valuesTo b s W X j v n) 0
+  pub at : (j v : ℕ) → j < 4 → v < 32 → countAt C j v ≡ cond (ltb j (placesOf k)) (valuesTo b s W X j v n) 0
 
 -- how many choices the sets x have for the places other than j
 unfoldable pub othersOf : List ℕ → ℕ → ℕ

@@ -11,7 +11,8 @@ ghost use lib.Bits.{bitOr};
 ghost use lib.Dec.{eqb};
 ghost use lib.ListN.{getD, replicate};
 ghost use Rattle.heads.specs.Heads.{forbidsOf, widthOf};
-ghost use Rattle.cells.specs.Cells.{SmallSets, placesOf};
+ghost use Rattle.cells.specs.Cells.{SmallSets};
+ghost use Rattle.tally.specs.Tallies.{placesOf};
 ghost use Rattle.words.specs.Sheets.{AtSheet, FindsSupported, SheetWords};
 ghost use Rattle.looks.specs.Counts.{CountsTo, Fewer, NoneAbove, NotFull, NotFullTo, Others, SameSets};
 
@@ -54,25 +55,25 @@ fn fewer(n: u32, others: &[u32; 4]) -> bool
     n < others[3]
 }
 
-// How many rows of sheet s that are set have each value at each place.
+// How many rows of sheet s that are set have each value at each place, at as many places as a sheet of width k has, two at least.
 fn count_sheet(
     book: &[u8],
     begin: usize,
     s: usize,
     n: usize,
-    wide: bool,
+    k: usize,
     valid: &[u64; 64],
     index: &[u8; 64],
     nonzero: &[u8; 8],
     counts: &mut [u32; 128],
 )
     requires { ⌜ AtSheet (now book) begin s × SheetWords (now book) s (now valid) (now index) (now nonzero) × (n ≡ getD (now nonzero) s 0) × (now counts ≡ replicate 128 0) ⌝ }
-    ensures { λ r. ⌜ CountsTo wide (now (book .entry)) s (now (valid .entry)) (now (index .entry)) n (now (counts .exit)) ⌝ }
+    ensures { λ r. ⌜ CountsTo k (now (book .entry)) s (now (valid .entry)) (now (index .entry)) n (now (counts .exit)) ⌝ }
 {
     let mut p: usize = 0;
     while p < n {
         let w = word_number(index, s, p);
-        cells::tally::counted(book, begin, w, valid[8 * s + w], wide, counts);
+        tally::counted(book, begin, w, valid[8 * s + w], k, counts);
         p += 1;
     }
 }
@@ -137,19 +138,19 @@ fn all_left(x: &[u32; 4], y: &mut [u32; 4])
     y[3] = x[3];
 }
 
-// The values with support at each place of sheet s, which forbids its rows, and is `wide` if it has more than two columns.
+// The values with support at each place of sheet s, which forbids its rows, and whose values are counted as those of a sheet of width k.
 pub fn unforbidden(
     book: &[u8],
     begin: usize,
     s: usize,
-    wide: bool,
+    k: usize,
     x: &[u32; 4],
     y: &mut [u32; 4],
     valid: &[u64; 64],
     index: &[u8; 64],
     nonzero: &[u8; 8],
 )
-    requires { ⌜ AtSheet (now book) begin s × SheetWords (now book) s (now valid) (now index) (now nonzero) × (forbidsOf (now book) s ≡ true) × (widthOf (now book) s ≤ placesOf wide) × (now y ≡ replicate 4 0) × SmallSets (now x) ⌝ }
+    requires { ⌜ AtSheet (now book) begin s × SheetWords (now book) s (now valid) (now index) (now nonzero) × (forbidsOf (now book) s ≡ true) × (widthOf (now book) s ≤ placesOf k) × (now y ≡ replicate 4 0) × SmallSets (now x) ⌝ }
     ensures { λ r. ⌜ FindsSupported (now (book .entry)) s (now (valid .entry)) (now (x .entry)) (now (y .exit)) ⌝ }
 {
     let n = nonzero_words(nonzero, s);
@@ -165,6 +166,6 @@ pub fn unforbidden(
         return;
     }
     let mut counts = [0u32; 128];
-    count_sheet(book, begin, s, n, wide, valid, index, nonzero, &mut counts);
+    count_sheet(book, begin, s, n, k, valid, index, nonzero, &mut counts);
     places_left(&counts, rows, &others, x, y);
 }

@@ -3,12 +3,13 @@ use crate::count::*;
 use words::cut::*;
 use words::gather::*;
 ghost use mathlib.Core.Path.{_≡_};
+ghost use mathlib.Core.Bool.{true};
 ghost use Prim.Native.Nat.{_<_};
 ghost use lib.ListN.{replicate};
 ghost use Rattle.model.specs.Stores.{IsStore};
-ghost use Rattle.heads.specs.Heads.{widthOf};
+ghost use Rattle.heads.specs.Heads.{forbidsOf, widthOf};
 ghost use Rattle.cells.specs.Cells.{SmallSets};
-ghost use Rattle.words.specs.Sheets.{AtSheet, FindsSupported, IsSheet, RowsAre, SheetWords, ShortPlaces, Sized};
+ghost use Rattle.words.specs.Sheets.{AtSheet, FindsSupported, IsSheet, OnlySheet, RowsAre, RowsKnown, SheetWords, ShortPlaces, Sized};
 ghost use Rattle.looks.specs.Strikes.{StruckPlace, StruckTo};
 ghost use Rattle.looks.specs.Looks.{Revised, SheetKnown, Struck};
 
@@ -60,11 +61,8 @@ fn supported(
     ensures { λ r. ⌜ FindsSupported (now (book .entry)) s (now (valid .entry)) (now (x .entry)) (now (y .exit)) ⌝ }
 {
     if heads::head::forbids(book, s) {
-        if heads::head::width(book, s) < 3 {
-            unforbidden(book, begin, s, false, x, y, valid, index, nonzero);
-            return;
-        }
-        unforbidden(book, begin, s, true, x, y, valid, index, nonzero);
+        let k = heads::head::width(book, s);
+        unforbidden(book, begin, s, k, x, y, valid, index, nonzero);
         return;
     }
     carried(book, begin, s, shorts, x, y, valid, index, nonzero);
@@ -106,11 +104,33 @@ fn seen_as(satisfied: bool, lost: u32) -> Revision
     }
 }
 
+// The rows of a forbidden sheet cut by its own strikes: `lost` are the columns that lost a value by them.
+fn cut_struck(
+    book: &[u8],
+    begin: usize,
+    s: usize,
+    lost: u32,
+    dom: &[u32; 16],
+    valid: &mut [u64; 64],
+    index: &mut [u8; 64],
+    nonzero: &mut [u8; 8],
+)
+    requires { ⌜ AtSheet (now book) begin s × (forbidsOf (now book) s ≡ true) × IsStore 16 (now dom) × RowsKnown (now book) s lost (now dom) (now valid) (now index) (now nonzero) ⌝ }
+    ensures { λ r. ⌜ RowsKnown (now (book .entry)) s 0 (now (dom .entry)) (now (valid .exit)) (now (index .exit)) (now (nonzero .exit)) × OnlySheet s (now (valid .entry)) (now (index .entry)) (now (nonzero .entry)) (now (valid .exit)) (now (index .exit)) (now (nonzero .exit)) ⌝ }
+{
+    if lost == 0 {
+        return;
+    }
+    let mut x = [1u32; 4];
+    wanted(book, s, dom, &mut x);
+    cut_inside(book, begin, s, &x, valid, index, nonzero);
+}
+
 // Sheet s looked at, whose columns in `changed` lost values since it was last looked at.
 //
 // One that allows its rows fails where no row is left, and where no row was cut, every value keeps its support. One that forbids them has fewer choices as soon
 // as a column lost a value, even where no row was cut, so values are always counted; it fails where its first column becomes empty, and with it all of them.
-// What it strikes may be in rows that are set: these are cut in a second round.
+// What it strikes may be in rows that are set: these are cut at the end.
 pub fn revise(
     book: &[u8],
     begin: usize,
@@ -127,30 +147,21 @@ pub fn revise(
     ensures { λ r. ⌜ Revised (now (book .entry)) s (now (dom .entry)) (now (valid .entry)) (now (index .entry)) (now (nonzero .entry)) (now (dom .exit)) (now (valid .exit)) (now (index .exit)) (now (nonzero .exit)) (r .satisfied) (r .lost) ⌝ }
 {
     let forbids = heads::head::forbids(book, s);
-    let mut unseen = changed;
-    let mut lost: u32 = 0;
-    let mut round: usize = 0;
-    while round < 2 {
-        let cut = cut_places(book, begin, s, unseen, opening, dom, valid, index, nonzero);
-        if round == 1 {
-            return seen_as(true, lost);
-        }
-        if !(forbids | cut) {
-            return seen_as(true, 0);
-        }
-        if !(forbids | (nonzero[s] != 0)) {
-            return seen_as(false, 0);
-        }
-        lost = strike(book, begin, s, shorts, dom, valid, index, nonzero);
-        if !forbids {
-            return seen_as(true, lost);
-        }
-        let c = heads::head::column(book, s, 0);
-        if dom[c] == 0 {
-            return seen_as(false, lost);
-        }
-        unseen = lost;
-        round += 1;
+    let cut = cut_places(book, begin, s, changed, opening, dom, valid, index, nonzero);
+    if !(forbids | cut) {
+        return seen_as(true, 0);
     }
+    if !(forbids | (nonzero[s] != 0)) {
+        return seen_as(false, 0);
+    }
+    let lost = strike(book, begin, s, shorts, dom, valid, index, nonzero);
+    if !forbids {
+        return seen_as(true, lost);
+    }
+    let c = heads::head::column(book, s, 0);
+    if dom[c] == 0 {
+        return seen_as(false, lost);
+    }
+    cut_struck(book, begin, s, lost, dom, valid, index, nonzero);
     seen_as(true, lost)
 }

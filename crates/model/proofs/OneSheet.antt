@@ -1,5 +1,4 @@
--- The closure of a book with one sheet: what the rows that are valid in A support is a consistent store, since those rows are valid in it
--- too. Assumes nothing.
+-- The closure of a book with one sheet: what the sheet settles A to is a consistent store (Settling). Assumes nothing.
 use mathlib.Core.Path.{_∙_, _≡_, ap, refl, subst⁻¹, sym}
 use mathlib.Core.Bool.{Bool, _&&_, false, true}
 use mathlib.Core.Logic.{_⊎_, inl, inr}
@@ -8,14 +7,14 @@ use Prim.Native.Nat.{_<_, ℕ}
 use lib.Dec.{ltb}
 use lib.ListN.{getD, length}
 use borrow.Author.Tests.{lt-ltb}
-use Rattle.model.specs.Books.{Book, ConsistentStore, Sheet, Stays, Support, WellFormed, WellFormedSheet, closure, columnCount, supportedIn}
+use Rattle.model.specs.Books.{Book, ConsistentStore, Settles, Sheet, Stays, Support, WellFormed, WellFormedSheet, closure, columnCount, supportedIn}
 use Rattle.model.specs.States.{OneSheet, OneSheets, validRow}
 use Rattle.model.specs.Stores.{IsStore, Within, has, storeOf}
-use Rattle.model.proofs.Books.{distinct, in-domain-e, place-or-none, stays-iff, support-e, support-i, support-mono}
-use Rattle.model.proofs.Choices.{length-pick, pick-e, pick-i}
+use Rattle.model.proofs.Books.{in-domain-e, place-or-none, stays-iff, support-i, support-mono}
 use Rattle.model.proofs.Rows.{supportsByRows, valid-e, valid-i}
+use Rattle.model.proofs.Settling.{left-support, tuple-left}
 use Rattle.model.proofs.Stores.{has-e, has-i, in-store}
-use Rattle.model.proofs.Tests.{and-i, and-l, and-r}
+use Rattle.model.proofs.Tests.{and-i, and-l, and-r, either}
 
 -- a list of one has no other element
 alone : {A : Type 0} (x y : A) → List·Memᴰ x (y ∷ []) → x ≡ y
@@ -37,46 +36,28 @@ module _ (b : Book) (s : Sheet) (A : List ℕ) (p : WellFormed b) (only : b .she
   abbrev left : List ℕ
   left = storeOf (columnCount b) keeps
 
-  left-i : (c v : ℕ) → has A c v ≡ true → ((i : ℕ) → i < length (s .columns) → getD (s .columns) i 0 ≡ c → Support A s i v) → has left c v ≡ true
-  left-i c v e h =
-      let i = in-store (columnCount b) A a c v e in
-      has-i (columnCount b) keeps c v (i .0) (i .1) (and-i e (support-i A (a .bits) s c v h))
+  kept : (c v : ℕ) → has A c v ≡ true → supportedIn A c v s ≡ true → has left c v ≡ true
+  kept c v e t = let i = in-store (columnCount b) A a c v e in has-i (columnCount b) keeps c v (i .0) (i .1) (and-i e t)
 
-  left-within : Within left A
-  left-within = record { at = λ c v e. and-l _ _ (has-e (columnCount b) keeps c v e .2) }
+  settled : Settles A left s
+  settled =
+      record {
+        within = record { at = λ c v e. and-l _ _ (has-e (columnCount b) keeps c v e .2) };
+        struck = λ c v e. go c v e (either (supportedIn A c v s));
+        left = λ c v e. and-r (has A c v) _ (has-e (columnCount b) keeps c v e .2);
+      }
+    where
+      go : (c v : ℕ) → has A c v ≡ true → (supportedIn A c v s ≡ true) ⊎ (supportedIn A c v s ≡ false) → (has left c v ≡ true) ⊎ (supportedIn A c v s ≡ false)
+      go c v e (inl t) = inl (kept c v e t)
+      go c v e (inr t) = inr t
 
-  left-own : (i : ℕ) → i < length (s .columns) → (v : ℕ) → has left (getD (s .columns) i 0) v ≡ true → Support A s i v
-  left-own i l v e =
-      support-e A (b .counts) s well i l v (and-r (has A (getD (s .columns) i 0) v) _ (has-e (columnCount b) keeps (getD (s .columns) i 0) v e .2))
+  -- all of a column that the sheet does not have is left
+  other-left : (c v : ℕ) → has A c v ≡ true → ((i : ℕ) → i < length (s .columns) → getD (s .columns) i 0 ≡ c → ⊥) → has left c v ≡ true
+  other-left c v e n = kept c v e (support-i A (a .bits) s c v (λ i l q. absurd (n i l q)))
 
   -- every value of a valid row is left
   row-left : (i v : ℕ) (k : Support A s i v) (j : ℕ) → j < length (s .columns) → has left (getD (s .columns) j 0) (getD (k .tuple) j 0) ≡ true
-  row-left i v k j l =
-      left-i (getD (s .columns) j 0) (getD (k .tuple) j 0)
-      (pick-e A (s .columns) j (getD (k .tuple) j 0) (k .valid .each j (rw (length-pick A (s .columns)) l)) .1)
-      (λ n m q.
-      record {
-        tuple = k .tuple;
-        sheet-allows = k .sheet-allows;
-        valid = k .valid;
-        value = ap (λ (x : ℕ). getD (k .tuple) x 0) (distinct (s .columns) (well .rising) n j m l q);
-      })
-
-  -- so it is valid in what is left
-  support-left : (i v : ℕ) → Support A s i v → Support left s i v
-  support-left i v k =
-      record {
-        tuple = k .tuple;
-        sheet-allows = k .sheet-allows;
-        valid =
-            record {
-              size = k .valid .size ∙ length-pick A (s .columns) ∙ sym (length-pick left (s .columns));
-              each = λ j m.
-                  let l : j < length (s .columns) = rw (length-pick left (s .columns)) at m in
-                  pick-i left (s .columns) j (getD (k .tuple) j 0) l (row-left i v k j l);
-            };
-        value = k .value;
-      }
+  row-left = tuple-left (b .counts) A left s well (a .bits) settled
 
   -- with a valid row, what is left is consistent
   consistent : (i v : ℕ) → Support A s i v → ConsistentStore b left
@@ -85,19 +66,19 @@ module _ (b : Book) (s : Sheet) (A : List ℕ) (p : WellFormed b) (only : b .she
         filled = λ c l. filled c l (place-or-none (s .columns) c);
         support = λ t m.
             subst⁻¹ (λ (t : Sheet). (i : ℕ) → i < length (t .columns) → (v : ℕ) → has left (getD (t .columns) i 0) v ≡ true → Support left t i v)
-            (alone t s (rw only at m)) (λ i l v e. support-left i v (left-own i l v e));
+            (alone t s (rw only at m)) (λ i l v e. left-support (b .counts) A left s well (a .bits) settled i v l e);
       }
     where
       filled : (c : ℕ) → c < columnCount b
           → ((i : ℕ) × (i < length (s .columns)) × (getD (s .columns) i 0 ≡ c)) ⊎ ((i : ℕ) → i < length (s .columns) → getD (s .columns) i 0 ≡ c → ⊥)
           → (v : ℕ) × (has left c v ≡ true)
       filled c l (inl j) = (getD (k .tuple) (j .0) 0, rw (j .2) at (row-left i v k (j .0) (j .1)))
-      filled c l (inr n) = let r = f c l in (r .0, left-i c (r .0) (r .1) (λ j m q. absurd (n j m q)))
+      filled c l (inr n) = let r = f c l in (r .0, other-left c (r .0) (r .1) n)
 
   -- with a valid row, what is left stays
   left-stays : (i v : ℕ) → Support A s i v → (c w : ℕ) → has left c w ≡ true → has (closure b A) c w ≡ true
   left-stays i v k c w e =
-      stays-iff b p A a c w .1 (record { store = left; consistent = consistent i v k; within = left-within; holds = e })
+      stays-iff b p A a c w .1 (record { store = left; consistent = consistent i v k; within = settled .within; holds = e })
 
   -- a value of a consistent store within A is supported in A
   stays-own : (c w : ℕ) (h : Stays b A c w) (i : ℕ) → i < length (s .columns) → (v : ℕ) → has (h .store) (getD (s .columns) i 0) v ≡ true → Support A s i v
@@ -133,7 +114,7 @@ module _ (b : Book) (s : Sheet) (A : List ℕ) (p : WellFormed b) (only : b .she
               let k = supportsByRows A s plain 0 (w .0) (well .some-column) .0 (stays-own c v h 0 (well .some-column) (w .0) (w .1)) in
               (h .within .at c v (h .holds), (k .row, k .is-valid)),
           λ r.
-              let k = row-supports (r .1 .0) (r .1 .1) in left-stays 0 (k .0) (k .1) c v (left-i c v (r .0) (λ i l q. absurd (n i l q))),
+              let k = row-supports (r .1 .0) (r .1 .1) in left-stays 0 (k .0) (k .1) c v (other-left c v (r .0) n),
         );
       }
 

@@ -15,7 +15,7 @@ use Rattle.model.proofs.Tests.{either}
 
 module _ (counts D E : List ℕ) (s : Sheet) (p : WellFormedSheet counts s) (d : (c : ℕ) → getD D c 0 < 2 ^ 32) (h : Settles D E s) where
   -- every value of a support is supported by it, so none of them is struck
-  tuple-left : (i v : ℕ) (k : Support D s i v) (j : ℕ) → j < length (s .columns) → has E (getD (s .columns) j 0) (getD (k .tuple) j 0) ≡ true
+  pub tuple-left : (i v : ℕ) (k : Support D s i v) (j : ℕ) → j < length (s .columns) → has E (getD (s .columns) j 0) (getD (k .tuple) j 0) ≡ true
   tuple-left i v k j l =
       go (h .struck (getD (s .columns) j 0) (getD (k .tuple) j 0) (pick-e D (s .columns) j (getD (k .tuple) j 0) (k .valid .each j (rw (length-pick D (s .columns)) l)) .1))
     where
@@ -51,10 +51,11 @@ module _ (counts D E : List ℕ) (s : Sheet) (p : WellFormedSheet counts s) (d :
       }
 
   -- what is left has support in what is left
+  pub left-support : (i v : ℕ) → i < length (s .columns) → has E (getD (s .columns) i 0) v ≡ true → Support E s i v
+  left-support i v l e = support-left i v (support-e D counts s p i l v (h .left (getD (s .columns) i 0) v e))
+
   pub settles-seen : ((c : ℕ) → getD E c 0 < 2 ^ 32) → (c v : ℕ) → has E c v ≡ true → supportedIn E c v s ≡ true
-  settles-seen z c v e =
-      support-i E z s c v
-      (λ i l q. support-left i v (support-e D counts s p i l v (rw q (h .left c v e))))
+  settles-seen z c v e = support-i E z s c v (λ i l q. left-support i v l (rw q e))
 
   -- a value left in one column of the sheet leaves one in each
   own-filled : (i v : ℕ) → i < length (s .columns) → has E (getD (s .columns) i 0) v ≡ true → (j : ℕ) → j < length (s .columns)

@@ -19,8 +19,8 @@ use Rattle.model.specs.Tests.{allBelow}
 use Rattle.model.proofs.Masks.{bit-below, bit-of-zero, some-bit}
 use Rattle.model.proofs.Tests.{allBelow-last, and-assoc, and-l, and-true, below, either, or-false-l, or-false-r}
 use Rattle.heads.specs.Heads.{columnOf, rowsOf}
-use Rattle.cells.specs.Cells.{Kept, Readable, nearPlace}
-use Rattle.words.specs.Sheets.{AtSheet, CutBy, IndexOf, Inside, OnlySheet, SheetWords, Sized, WordCut, firstByte, isSet, passesAt, passesBelow, swapped, valueAt, valueIn}
+use Rattle.cells.specs.Cells.{Kept, KeptInside, Readable, nearPlace, rowInside}
+use Rattle.words.specs.Sheets.{AtSheet, CutBy, IndexOf, Inside, OnlySheet, SheetWords, Sized, WordCut, WordKept, isSet, passesAt, passesBelow, swapped, valueAt, valueIn}
 use Rattle.words.proofs.Indexes.{Where, index-dropped, index-kept, left, length-swapped, names-other, neither, of-set-other, of-set-same, of-swapped, of-swapped-other, other, other-left, other-lt, other-rest, other-right, past-limit, right, set-below, where-is}
 use Rattle.words.proofs.Places.{block-there, cell-is, cell-there, eight}
 
@@ -81,21 +81,19 @@ only-more p q =
     }
 
 -- ---- one word
-module _ {b : List ℕ} {begin s : ℕ} (a : AtSheet b begin s) (p j d : ℕ) (W X N : List ℕ) (h : IndexOf s W X N) (size : Sized W X N) (l : p < getD N s 0)
-    (w word keep : ℕ) (ew : w ≡ ofSheet X s p) (eword : word ≡ ofSheet W s w) (k : Kept b begin (64 * w) j d word keep) where
+module _ {s : ℕ} (eight : s < 8) {p : ℕ} {W X N : List ℕ} (h : IndexOf s W X N) (size : Sized W X N) (l : p < getD N s 0)
+    {w word keep : ℕ} (ew : w ≡ ofSheet X s p) (eword : word ≡ ofSheet W s w) {test : ℕ → Bool} (k : WordKept test w word keep) where
   small : p < 8
   small = omega (arith, h .few)
 
   w-small : w < 8
   w-small = rw ew (h .each p small)
 
-  kept-here : (W′ : List ℕ) → ofSheet W′ s w ≡ keep
-      → Kept b (firstByte b s) (64 * ofSheet X s p) j d (ofSheet W s (ofSheet X s p)) (ofSheet W′ s (ofSheet X s p))
-  kept-here W′ e =
-      rw (← ew, ← a .begins, e, ← eword) k
+  kept-here : (W′ : List ℕ) → ofSheet W′ s w ≡ keep → WordKept test (ofSheet X s p) (ofSheet W s (ofSheet X s p)) (ofSheet W′ s (ofSheet X s p))
+  kept-here W′ e = rw (← ew, e, ← eword) k
 
   -- no row is cut
-  pub word-uncut : keep ≡ word → WordCut b s p j d W X N W X N
+  pub word-uncut : keep ≡ word → WordCut test s p W X N W X N
   word-uncut e = record {
     word = kept-here W (sym eword ∙ sym e);
     rest = λ i q n. refl;
@@ -112,7 +110,7 @@ module _ {b : List ℕ} {begin s : ℕ} (a : AtSheet b begin s) (p j d : ℕ) (W
     set-bits i = set-below W (8 * s + w) keep (2 ^ 64) keep-fits (size .bits) i
 
     here : ofSheet (set W (8 * s + w) keep) s w ≡ keep
-    here = of-set-same W s w keep w-small (omega (arith, eight a, w-small, size .words))
+    here = of-set-same W s w keep w-small (omega (arith, eight, w-small, size .words))
 
     there : (t i : ℕ) → i < 8 → (t ≡ s → i ≡ w → ⊥) → ofSheet (set W (8 * s + w) keep) t i ≡ ofSheet W t i
     there t i q n = of-set-other W s w keep w-small t i q n
@@ -121,7 +119,7 @@ module _ {b : List ℕ} {begin s : ℕ} (a : AtSheet b begin s) (p j d : ℕ) (W
     rest-same i q n = there s i q (λ z e. n (e ∙ ew))
 
     -- some rows are left
-    pub word-less : 0 < keep → WordCut b s p j d W X N (set W (8 * s + w) keep) X N
+    pub word-less : 0 < keep → WordCut test s p W X N (set W (8 * s + w) keep) X N
     word-less q = record {
       word = kept-here (set W (8 * s + w) keep) here;
       rest = rest-same;
@@ -134,17 +132,17 @@ module _ {b : List ℕ} {begin s : ℕ} (a : AtSheet b begin s) (p j d : ℕ) (W
     }
 
     -- none is left
-    pub word-zero : keep ≡ 0 → WordCut b s p j d W X N (set W (8 * s + w) keep) (swapped X (8 * s + p) (8 * s + (getD N s 0 - 1))) (set N s (getD N s 0 - 1))
+    pub word-zero : keep ≡ 0 → WordCut test s p W X N (set W (8 * s + w) keep) (swapped X (8 * s + p) (8 * s + (getD N s 0 - 1))) (set N s (getD N s 0 - 1))
     word-zero z = record {
       word = kept-here (set W (8 * s + w) keep) here;
       rest = rest-same;
       before = λ i r. of-swapped X s p q small q-small there-x i ∙ ap (ofSheet X s) (other-rest p q i (λ e. omega arith) (λ e. omega arith));
       after = λ i r y. (other p q i, from i r, other-lt p q i 8 small q-small y, of-swapped X s p q small q-small there-x i);
       indexed =
-          rw (getD-set-same N s q 0 (omega (arith, eight a, size .nonzero)))
+          rw (getD-set-same N s q 0 (omega (arith, eight, size .nonzero)))
           (index-dropped h p l (ofSheet (set W (8 * s + w) keep) s) rest-same (ap (ofSheet (set W (8 * s + w) keep) s) (sym ew) ∙ here ∙ z)
           (ofSheet (swapped X (8 * s + p) (8 * s + q)) s) (of-swapped X s p q small q-small there-x));
-      limit = rw (getD-set-same N s q 0 (omega (arith, eight a, size .nonzero))) (omega arith);
+      limit = rw (getD-set-same N s q 0 (omega (arith, eight, size .nonzero))) (omega arith);
       only = record {
         words = λ t i r n. there t i r (λ y e. n y);
         index = λ t i r n. of-swapped-other X s p q small q-small there-x t i r n;
@@ -165,7 +163,7 @@ module _ {b : List ℕ} {begin s : ℕ} (a : AtSheet b begin s) (p j d : ℕ) (W
         q-small = omega (arith, h .few)
 
         there-x : 8 * s + 8 ≤ length X
-        there-x = omega (arith, eight a, size .index)
+        there-x = omega (arith, eight, size .index)
 
         from : (i : ℕ) → p ≤ i → p ≤ other p q i
         from i r = go (where-is p q i)
@@ -175,11 +173,18 @@ module _ {b : List ℕ} {begin s : ℕ} (a : AtSheet b begin s) (p j d : ℕ) (W
             go (right e) = rw (e, other-right p q) (omega arith)
             go (neither m n) = rw (other-rest p q i m n) r
 
+-- the two tests: a cell in a set, and every cell in its own
+pub word-kept : {b : List ℕ} {begin s : ℕ} → AtSheet b begin s → {w j d word keep : ℕ} → Kept b begin (64 * w) j d word keep → WordKept (valueIn b s j d) w word keep
+unfolding valueIn
+word-kept a k = record { at = rw (a .begins) at (k .at) }
+
+pub word-inside : {b x : List ℕ} {begin w word keep : ℕ} → KeptInside b begin (64 * w) x word keep → WordKept (rowInside b begin x) w word keep
+word-inside k = record { at = k .at }
+
 -- ---- all words of a sheet, from the limit down
 -- those at positions from p on are cut, those before are as they were
-pub record Cutting (b : List ℕ) (s p j d : ℕ) (W X N W′ X′ N′ : List ℕ) (any : Bool) : Type 0 where
-  pub done : (i : ℕ) → p ≤ i → i < 8
-      → Kept b (firstByte b s) (64 * ofSheet X′ s i) j d (ofSheet W s (ofSheet X′ s i)) (ofSheet W′ s (ofSheet X′ s i))
+pub record Cutting (test : ℕ → Bool) (s p : ℕ) (W X N W′ X′ N′ : List ℕ) (any : Bool) : Type 0 where
+  pub done : (i : ℕ) → p ≤ i → i < 8 → WordKept test (ofSheet X′ s i) (ofSheet W s (ofSheet X′ s i)) (ofSheet W′ s (ofSheet X′ s i))
   pub todo : (i : ℕ) → i < p → ofSheet W′ s (ofSheet X′ s i) ≡ ofSheet W s (ofSheet X′ s i)
   pub indexed : IndexOf s W′ X′ N′
   pub limit : p ≤ getD N′ s 0
@@ -187,11 +192,11 @@ pub record Cutting (b : List ℕ) (s p j d : ℕ) (W X N W′ X′ N′ : List �
   pub sized : Sized W′ X′ N′
   pub same : any ≡ false → W′ ≡ W
 
-kept-none : {b : List ℕ} {begin from j d x y : ℕ} → x ≡ 0 → y ≡ 0 → Kept b begin from j d x y
+kept-none : {test : ℕ → Bool} {w x y : ℕ} → x ≡ 0 → y ≡ 0 → WordKept test w x y
 kept-none e f = record { at = λ k. rw (e, f, bit-of-zero) }
 
-pub cutting-start : (b : List ℕ) (s j d n : ℕ) (W X N : List ℕ) → SheetWords b s W X N → n ≡ getD N s 0 → Cutting b s n j d W X N W X N false
-cutting-start b s j d n W X N h e =
+pub cutting-start : {b : List ℕ} (test : ℕ → Bool) {s n : ℕ} {W X N : List ℕ} {any : Bool} → SheetWords b s W X N → n ≡ getD N s 0 → Cutting test s n W X N W X N any
+cutting-start test h e =
     record {
       done = λ i q l. let y = past-limit (h .indexed) i l (omega arith) in kept-none y y;
       todo = λ i q. refl;
@@ -202,9 +207,9 @@ cutting-start b s j d n W X N h e =
       same = λ e. refl;
     }
 
-module _ {b : List ℕ} {s j d : ℕ} {W X N W′ X′ N′ : List ℕ} where
-  pub cutting-more : {p : ℕ} {W″ X″ N″ : List ℕ} {any r : Bool} → Cutting b s (p + 1) j d W X N W′ X′ N′ any
-      → WordCut b s p j d W′ X′ N′ W″ X″ N″ → (r ≡ false → W″ ≡ W′) → Cutting b s p j d W X N W″ X″ N″ (any || r)
+module _ {test : ℕ → Bool} {s : ℕ} {W X N W′ X′ N′ : List ℕ} where
+  pub cutting-more : {p : ℕ} {W″ X″ N″ : List ℕ} {any r : Bool} → Cutting test s (p + 1) W X N W′ X′ N′ any
+      → WordCut test s p W′ X′ N′ W″ X″ N″ → (r ≡ false → W″ ≡ W′) → Cutting test s p W X N W″ X″ N″ (any || r)
   cutting-more {p} {W″} {X″} {N″} {any} {r} h c same = record {
     done = λ i q l. let f = c .after i q l in subst⁻¹ made (f .3) (at-old (f .0) (f .1) (f .2) (either (eqb (f .0) p)));
     todo = λ i q.
@@ -226,7 +231,7 @@ module _ {b : List ℕ} {s j d : ℕ} {W X N W′ X′ N′ : List ℕ} where
       under = omega (arith, h .limit)
 
       made : ℕ → Type 0
-      made w = Kept b (firstByte b s) (64 * w) j d (ofSheet W s w) (ofSheet W″ s w)
+      made w = WordKept test w (ofSheet W s w) (ofSheet W″ s w)
 
       at-old : (k : ℕ) → p ≤ k → k < 8 → (eqb k p ≡ true) ⊎ (eqb k p ≡ false) → made (ofSheet X′ s k)
       at-old k q l (inl e) = let z = eqb-true k p e in rw (z, ← h .todo p (omega arith)) (c .word)
@@ -236,14 +241,14 @@ module _ {b : List ℕ} {s j d : ℕ} {W X N W′ X′ N′ : List ℕ} where
           (h .done k (let z : p < k = lt-of-le-ne q (λ x. n (sym x)) in omega arith) l)
 
   -- every word that was there is cut to a part of itself
-  pub cutting-word : {p : ℕ} {any : Bool} → Cutting b s p j d W X N W′ X′ N′ any → (w k : ℕ) → w < 8 → bit k (ofSheet W′ s w) ≡ true → bit k (ofSheet W s w) ≡ true
+  pub cutting-word : {p : ℕ} {any : Bool} → Cutting test s p W X N W′ X′ N′ any → (w k : ℕ) → w < 8 → bit k (ofSheet W′ s w) ≡ true → bit k (ofSheet W s w) ≡ true
   cutting-word {p} h w k l e = let f = h .indexed .every w l in rw (← f .2) (go (f .0) (f .1) (below (f .0) p) (rw (f .2) e))
     where
       go : (i : ℕ) → i < 8 → (i < p) ⊎ (p ≤ i) → bit k (ofSheet W′ s (ofSheet X′ s i)) ≡ true → bit k (ofSheet W s (ofSheet X′ s i)) ≡ true
       go i m (inl q) x = ap (bit k) (sym (h .todo i q)) ∙ x
       go i m (inr q) x = and-l (bit k (ofSheet W s (ofSheet X′ s i))) _ (sym (h .done i q m .at k) ∙ x)
 
-  pub cutting-words : {p : ℕ} {any : Bool} → Cutting b s p j d W X N W′ X′ N′ any → SheetWords b s W X N → SheetWords b s W′ X′ N′
+  pub cutting-words : {b : List ℕ} {p : ℕ} {any : Bool} → Cutting test s p W X N W′ X′ N′ any → SheetWords b s W X N → SheetWords b s W′ X′ N′
   unfolding isSet
   cutting-words h i = record {
     inside = record { at = λ r l e. i .inside .at r l (cutting-word h (r / 64) (r % 64) (omega arith) e) };
@@ -251,13 +256,13 @@ module _ {b : List ℕ} {s j d : ℕ} {W X N W′ X′ N′ : List ℕ} where
     sized = h .sized;
   }
 
-  pub cutting-end : {any : Bool} → Cutting b s 0 j d W X N W′ X′ N′ any → CutBy (valueIn b s j d) s W X N W′ X′ N′
-  unfolding isSet valueIn
+  pub cutting-end : {any : Bool} → Cutting test s 0 W X N W′ X′ N′ any → CutBy test s W X N W′ X′ N′
+  unfolding isSet
   cutting-end h = record {
     at = λ r l.
         let f = h .indexed .every (r / 64) (omega arith) in
         let e : 64 * (r / 64) + r % 64 ≡ r = omega arith in
-        (rw (f .2) at (h .done (f .0) (omega arith) (f .1) .at (r % 64))) ∙ ap (λ (i : ℕ). bit (r % 64) (ofSheet W s (r / 64)) && inDomain (valueAt b s i j) d) e;
+        (rw (f .2) at (h .done (f .0) (omega arith) (f .1) .at (r % 64))) ∙ ap (λ (i : ℕ). bit (r % 64) (ofSheet W s (r / 64)) && test i) e;
     indexed = h .indexed;
     only = h .only;
     sized = h .sized;

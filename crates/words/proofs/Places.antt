@@ -1,6 +1,6 @@
 -- The sheets of an accepted book: where their rows stand, and which of them are valid. Assumes nothing.
 use mathlib.Core.Path.{_∙_, _≡_, ap, refl, sym}
-use mathlib.Core.Bool.{Bool, _&&_, false, true}
+use mathlib.Core.Bool.{Bool, _&&_, false, false≢true, true}
 use mathlib.Core.Logic.{_⊎_, inl, inr, ⊎-elim}
 use mathlib.Core.List.{List, List·Memᴰ, []}
 use Prim.Native.Nat.{_*_, _+_, _/_, _<_, _≤_, suc, zero, ℕ}
@@ -89,6 +89,10 @@ module _ {b : List ℕ} {begin s : ℕ} (a : AtSheet b begin s) where
   -- the same by the sheet alone
   pub value-is : (r j : ℕ) → r < rowsOf b s → j < 4 → IsCell (valueAt b s r j)
   value-is r j l p = rw (a .begins) at (cell-is r j l p)
+
+  -- in a sheet that forbids its rows it is a value: no 255
+  pub forbidden-value : forbidsOf b s ≡ true → (r j : ℕ) → r < rowsOf b s → j < widthOf b s → valueAt b s r j < 32
+  forbidden-value f r j l p = ⊎-elim (λ q. absurd (false≢true (sym (q .0) ∙ f))) (λ v. omega (arith, values-few j p)) (rw (a .begins) at (cell-value r j l p))
 
   -- at a place that is not used it is 0
   pub unused-value : (r j : ℕ) → r < rowsOf b s → widthOf b s ≤ j → j < 4 → valueAt b s r j ≡ 0

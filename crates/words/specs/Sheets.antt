@@ -17,7 +17,7 @@ use Rattle.book.specs.Decoding.{bookOf}
 use Rattle.heads.specs.Heads.{columnOf, rowsOf, sheetsOf, widthOf}
 use Rattle.book.specs.Rows.{firstBlock}
 use Rattle.book.specs.Verdicts.{Accepted}
-use Rattle.cells.specs.Cells.{Kept, SmallSets, cellAt}
+use Rattle.cells.specs.Cells.{SmallSets, cellAt}
 
 -- ---- the rows of a sheet
 -- the byte at which the rows of sheet s begin
@@ -74,10 +74,14 @@ pub record OnlySheet (s : ℕ) (W X N W′ X′ N′ : List ℕ) : Type 0 where
 unfoldable pub swapped : List ℕ → ℕ → ℕ → List ℕ
 swapped xs i j = set (set xs i (getD xs j 0)) j (getD xs i 0)
 
--- the word at position p of the index is cut by the set d at place j. If it is zero then, it goes past the limit: positions from p on may
+-- y is what is kept of x, which is word w of a sheet: the rows that pass a test
+pub record WordKept (test : ℕ → Bool) (w x y : ℕ) : Type 0 where
+  pub at : (k : ℕ) → bit k y ≡ (bit k x && test (64 * w + k))
+
+-- the word at position p of the index is cut to the rows that pass a test. If it is zero then, it goes past the limit: positions from p on may
 -- change places, and those before p stay
-pub record WordCut (b : List ℕ) (s p j d : ℕ) (W X N W′ X′ N′ : List ℕ) : Type 0 where
-  pub word : Kept b (firstByte b s) (64 * ofSheet X s p) j d (ofSheet W s (ofSheet X s p)) (ofSheet W′ s (ofSheet X s p))
+pub record WordCut (test : ℕ → Bool) (s p : ℕ) (W X N W′ X′ N′ : List ℕ) : Type 0 where
+  pub word : WordKept test (ofSheet X s p) (ofSheet W s (ofSheet X s p)) (ofSheet W′ s (ofSheet X s p))
   pub rest : (w : ℕ) → w < 8 → (w ≡ ofSheet X s p → ⊥) → ofSheet W′ s w ≡ ofSheet W s w
   pub before : (i : ℕ) → i < p → ofSheet X′ s i ≡ ofSheet X s i
   pub after : (i : ℕ) → p ≤ i → i < 8 → (k : ℕ) × (p ≤ k) × (k < 8) × (ofSheet X′ s i ≡ ofSheet X s k)

@@ -64,6 +64,21 @@ pub fn one_forbidden(counts: &[u8], rows: Vec<Vec<u8>>) -> Book {
     book
 }
 
+/// For each width from 2 to 4, a book of one column of 32 values at each place in turn beside columns of 3; and that place.
+/// Its sheet forbids value 5 of the large column with everything, and nothing else: its rows are as many as the choices for
+/// the other places there, and fewer than those at any small column.
+pub fn one_large_column() -> Vec<(usize, Book)> {
+    let book = |width: usize, place: usize| {
+        let mut counts = vec![3; width];
+        counts[place] = 32;
+        let mut values = vec![vec![0, 1, 2]; width];
+        values[place] = vec![5];
+        (place, one_forbidden(&counts, one_of_each(&values)))
+    };
+    let of_width = |width| (0..width).map(move |place| book(width, place));
+    (2..=4).flat_map(of_width).collect()
+}
+
 /// Any book of the format, from one column alone to 33 blocks.
 pub fn any_book(random: &mut Random) -> Book {
     let size = random.below(10);

@@ -4,7 +4,7 @@
 //! `FITTING_TWINS` asks for more books with a twin than the usual number.
 
 use conformance::{agreed_answers, back, every_mask, has_forbidden, narrow, one_forbidden};
-use conformance::{one_of_each, space_for, turned_over};
+use conformance::{one_large_column, one_of_each, space_for, turned_over};
 use conformance::{Book, Order, Seen, Sheet, Tally, Twins, FINISH, MARK};
 
 const TWINS: Twins = Twins {
@@ -204,20 +204,21 @@ fn every_number_of_values() {
 }
 
 /// One column of 32 values in each place beside columns of 3, and every row of one value of it: that value alone goes.
-/// The other places have more choices than a word has rows, and this one fewer.
+/// At its place alone the others have no more choices than there are rows, and from width 3 on no more than a word can have
+/// rows: a look at either number is decided there.
 #[test]
 fn one_large_column_in_every_place() {
-    for width in 3..=4 {
-        for place in 0..width {
-            let mut counts = vec![3; width];
-            counts[place] = 32;
-            let mut values: Vec<Vec<u8>> = vec![(0..3).collect(); width];
-            values[place] = vec![5];
-            let shown = agreed_answers(&one_forbidden(&counts, one_of_each(&values)), &[]);
-            let mut domains = vec![7; width];
-            domains[place] = !(1 << 5);
-            assert_eq!(shown[0].domains[..width], domains, "{counts:?}");
-        }
+    for (place, book) in one_large_column() {
+        let (counts, rows) = (&book.counts, book.sheets[0].rows.len());
+        let width = counts.len();
+        let choices = |i: usize| combinations(counts).len() / usize::from(counts[i]);
+        let few = |most: usize| (0..width).filter(move |&i| choices(i) <= most);
+        assert!(few(rows).eq([place]), "{counts:?}");
+        assert!(width == 2 || few(64).eq([place]), "{counts:?}");
+        let shown = agreed_answers(&book, &[]);
+        let mut domains = vec![7; width];
+        domains[place] = !(1 << 5);
+        assert_eq!(shown[0].domains[..width], domains, "{counts:?}");
     }
 }
 

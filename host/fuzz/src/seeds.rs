@@ -2,8 +2,8 @@
 
 use crate::{described, described_by_seed, raw, LONGEST_INPUT, MENDED};
 use conformance::{back, changed, contradicting, finish, harbour, kit, narrow, one_forbidden};
-use conformance::{one_sheet, regular, rising_rows, stairs, tiny, tries_of_contradicting, write};
-use conformance::{Book, Case, Run, Sheet, ANY, FINISH, MARK};
+use conformance::{one_large_column, one_sheet, regular, rising_rows, stairs, tiny};
+use conformance::{tries_of_contradicting, write, Book, Case, Run, Sheet, ANY, FINISH, MARK};
 use std::ops::Range;
 
 /// The first inputs, always the same: the vectors of the conformance kit, sweeps over single bytes, over pairs
@@ -37,6 +37,7 @@ pub fn seeds(count: u64) -> Vec<Vec<u8>> {
     seeds.extend((0..7).map(last_rows_of_a_word));
     seeds.extend(limits());
     seeds.extend(forbidden_sheets());
+    seeds.extend(large_columns());
     seeds.extend(rows_that_dont_rise());
     for seed in 0..count {
         let run = Run::new(seed);
@@ -222,6 +223,30 @@ fn forbidden_sheets() -> Vec<Vec<u8>> {
         bytes[24] = byte;
         raw(MENDED, &bytes, &FINISH)
     }));
+    seeds
+}
+
+/// Forbidden sheets of one large column beside small ones, at each place: whether values have to be counted is decided by
+/// the choices of the others at that place alone. One value of it goes at the opening; without the last row it goes with a
+/// narrow of a small column. At last a narrow leaves that value alone.
+fn large_columns() -> Vec<Vec<u8>> {
+    let mut seeds = Vec::new();
+    for (place, whole) in one_large_column() {
+        let mut nearly = whole.clone();
+        let last = nearly.sheets[0].rows.pop().expect("a row");
+        let small = (place + 1) % last.len();
+        let orders = [
+            MARK,
+            narrow(small as u8, 7 & !(1 << last[small])),
+            FINISH,
+            back(1),
+            narrow(place as u8, 1 << last[place]),
+            FINISH,
+        ];
+        for book in [whole, nearly] {
+            seeds.extend(both(&write(&book), &orders.concat()));
+        }
+    }
     seeds
 }
 

@@ -10,10 +10,10 @@ use Rattle.looks.proofs.count.count_sheet.Statement.{statement}
 use Rattle.looks.proofs.count.count_sheet.Tie as tie
 
 abbrev Inv-loop : tie.InvT-loop
-Inv-loop book begin s n wide valid index nonzero counts₀ p₀ counts p = CountsTo wide book s valid index p counts × (p ≤ n)
+Inv-loop book begin s n k valid index nonzero counts₀ p₀ counts p = CountsTo k book s valid index p counts × (p ≤ n)
 
 abbrev μ-loop : tie.MeasureT-loop
-μ-loop book begin s n wide valid index nonzero counts₀ p₀ counts p = n - p
+μ-loop book begin s n k valid index nonzero counts₀ p₀ counts p = n - p
 
 loop-holds : tie.Need-loop-holds Inv-loop μ-loop
 loop-holds c = let start : tie.Start Inv-loop μ-loop = search in (counts-none _ _ _ _ _ (start .pre .3), omega arith)
@@ -48,7 +48,7 @@ counted-requires c κs =
     let w : tie.After-word-number Inv-loop μ-loop = search in
     let e = w .word-number .ensures in
     let r = word-at (start .pre .0) (start .pre .1) (omega (arith, start .pre .2, turn .loop-test .taken)) (e .0) (e .1) in
-    (e .1, r .0, search (needs, r .1), counts-room (turn .before .loop .inv .0) (position turn))
+    (e .1, r .0, r .1, counts-room (turn .before .loop .inv .0) (position turn))
 
 loop-again : tie.Need-loop-again Inv-loop μ-loop
 loop-again c =

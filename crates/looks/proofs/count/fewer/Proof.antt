@@ -1,8 +1,6 @@
 use mathlib.Core.Bool.{false≢true}
 use borrow.Author.Needs.{needs}
 use borrow.Author.Tests.{ltb-true}
-use Rattle.cells.proofs.Walks.{four-all}
-use Rattle.looks.specs.Counts.{Fewer}
 use Rattle.looks.proofs.Counts.{fewer-four}
 use Rattle.looks.proofs.count.fewer.Statement.{statement}
 use Rattle.looks.proofs.count.fewer.Tie as tie

@@ -1,5 +1,3 @@
-use mathlib.Core.Path.{_≡_}
-use Prim.Native.Nat.{_≤_}
 use native.Mathlib.Nat.{le-refl}
 use native.Mathlib.Omega.{arith}
 use lib.ListN.{getD}
@@ -63,7 +61,7 @@ returns-3 c =
     let p = start .pre in
     let h = p .1 in
     unfilled-supported (p .0) (p .2) (p .3) h
-    (unfilled-counted (h .sized) (p .5) (start .args .wide) (rw (n .nonzero-words .ensures .0) at (k .count-sheet .ensures)) (o .choices-of .ensures) (c .places-left .ensures))
+    (unfilled-counted (h .sized) (p .5) (start .args .k) (rw (n .nonzero-words .ensures .0) at (k .count-sheet .ensures)) (o .choices-of .ensures) (c .places-left .ensures))
 
 pub unforbidden-spec : {M : Type 1} → statement M
 unforbidden-spec =

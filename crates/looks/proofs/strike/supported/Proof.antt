@@ -1,6 +1,6 @@
 use mathlib.Core.Path.{_∙_, sym}
-use native.Mathlib.Omega.{arith}
 use borrow.Author.Needs.{needs}
+use Rattle.tally.proofs.Tallies.{places-fit}
 use Rattle.words.proofs.Places.{eight, head-there, width-most}
 use Rattle.looks.proofs.strike.supported.Statement.{statement}
 use Rattle.looks.proofs.strike.supported.Tie as tie
@@ -17,17 +17,8 @@ unforbidden-requires c κs =
     let f : tie.After-forbids = search in
     let g : tie.Then1 = search in
     let w : tie.After-width = search in
-    let t : tie.Then2 = search in
     let p = start .pre in
-    (p .0, p .1, sym (f .forbids .ensures) ∙ g .if1 .taken, omega (arith, w .width .ensures .0, t .if2 .taken), p .3, p .4)
-
-unforbidden-requires-2 : tie.Need-unforbidden-requires-2
-unforbidden-requires-2 c κs =
-    let start : tie.Start = search in
-    let f : tie.After-forbids = search in
-    let g : tie.Then1 = search in
-    let p = start .pre in
-    (p .0, p .1, sym (f .forbids .ensures) ∙ g .if1 .taken, width-most (p .0) .1, p .3, p .4)
+    (p .0, p .1, sym (f .forbids .ensures) ∙ g .if1 .taken, rw (w .width .ensures .0) (places-fit _ .1 (width-most (p .0) .1)), p .3, p .4)
 
 carried-requires : tie.Need-carried-requires
 carried-requires c κs =
@@ -38,4 +29,4 @@ carried-requires c κs =
     (p .0, p .1, p .2, sym (f .forbids .ensures) ∙ g .if1 .left, p .3, p .4)
 
 pub supported-spec : {M : Type 1} → statement M
-supported-spec = tie.close (tie.spec forbids-requires width-requires unforbidden-requires (λ c. search needs) unforbidden-requires-2 (λ c. search needs) carried-requires (λ c. search needs))
+supported-spec = tie.close (tie.spec forbids-requires width-requires unforbidden-requires (λ c. search needs) carried-requires (λ c. search needs))

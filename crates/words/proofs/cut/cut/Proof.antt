@@ -2,14 +2,14 @@ use mathlib.Core.Path.{_≡_}
 use Prim.Native.Nat.{_+_, _-_}
 use native.Mathlib.Omega.{arith}
 use borrow.Author.Needs.{needs}
-use Rattle.words.specs.Sheets.{SheetWords}
+use Rattle.words.specs.Sheets.{SheetWords, valueIn}
 use Rattle.words.proofs.Cuts.{Cutting, cutting-end, cutting-words, cutting-more, cutting-start}
 use Rattle.words.proofs.Places.{eight}
 use Rattle.words.proofs.cut.cut.Statement.{statement}
 use Rattle.words.proofs.cut.cut.Tie as tie
 
 abbrev Inv-loop : tie.InvT-loop
-Inv-loop book begin s j d valid₀ index₀ nonzero₀ any₀ p₀ valid index nonzero any p = Cutting book s p j d valid₀ index₀ nonzero₀ valid index nonzero any × SheetWords book s valid index nonzero
+Inv-loop book begin s j d valid₀ index₀ nonzero₀ any₀ p₀ valid index nonzero any p = Cutting (valueIn book s j d) s p valid₀ index₀ nonzero₀ valid index nonzero any × SheetWords book s valid index nonzero
 
 abbrev μ-loop : tie.MeasureT-loop
 μ-loop book begin s j d valid₀ index₀ nonzero₀ any₀ p₀ valid index nonzero any p = p
@@ -18,7 +18,7 @@ nonzero-words-requires : tie.Need-nonzero-words-requires Inv-loop μ-loop
 nonzero-words-requires c κs = eight (c .before .before .pre .0)
 
 loop-holds : tie.Need-loop-holds Inv-loop μ-loop
-loop-holds c = (cutting-start _ _ _ _ _ _ _ _ (c .before .before .before .pre .2) (c .nonzero-words .ensures .0), c .before .before .before .pre .2)
+loop-holds c = (cutting-start _ (c .before .before .before .pre .2) (c .nonzero-words .ensures .0), c .before .before .before .pre .2)
 
 loop-again : tie.Need-loop-again Inv-loop μ-loop
 loop-again c =

@@ -2,17 +2,17 @@ use mathlib.Core.Path.{ap}
 use Prim.Native.Nat.{_%_, _*_, _+_, ℕ}
 use borrow.Author.Needs.{needs}
 use Rattle.model.proofs.Masks.{cleared-at}
 use Rattle.cells.proofs.Stretches.{row-cell}
-use Rattle.cells.proofs.Tallies.{Counting, cell-bytes, cells-counted, counting-end, counting-most, counting-start, counting-turn}
+use Rattle.tally.proofs.Tallies.{Counting, cell-bytes, cells-counted, counting-end, counting-most, counting-start, counting-turn}
 use Rattle.cells.proofs.Walks.{Part, part-cleared, whole}
-use Rattle.cells.proofs.tally.count_rows.Statement.{statement}
-use Rattle.cells.proofs.tally.count_rows.Tie as tie
+use Rattle.tally.proofs.count_far.Statement.{statement}
+use Rattle.tally.proofs.count_far.Tie as tie
 
 abbrev Inv-loop : tie.InvT-loop
-Inv-loop book p word wide counts₀ left₀ counts left = Counting wide book (p .begin) (64 * p .word) word left counts₀ counts × Part left word
+Inv-loop book p word k counts₀ left₀ counts left = Counting k book (p .begin) (64 * p .word) word left counts₀ counts × Part left word
 
 abbrev μ-loop : tie.MeasureT-loop
-μ-loop book p word wide counts₀ left₀ counts left = left
+μ-loop book p word k counts₀ left₀ counts left = left
 
 loop-holds : tie.Need-loop-holds Inv-loop μ-loop
 loop-holds c = let start : tie.Start Inv-loop μ-loop = search in (counting-start _ _ _ _ _ (start .pre .2), whole _)
@@ -51,7 +51,7 @@ loop-again c =
 returns : tie.Need-returns Inv-loop μ-loop
 returns c = counting-end (rw (c .loop-test .left) at (c .before .loop .inv .0))
 
-pub count-rows-spec : {M : Type 1} → statement M
-count-rows-spec =
+pub count-far-spec : {M : Type 1} → statement M
+count-far-spec =
     tie.close
     (tie.spec Inv-loop μ-loop loop-holds (λ c κs. search needs) (λ c. search needs) at-bit-requires count-row-requires (λ c κs. search needs) (λ c. search needs) loop-again returns)

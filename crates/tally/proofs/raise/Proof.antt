@@ -1,7 +1,7 @@
 use borrow.Author.Needs.{needs}
-use Rattle.cells.proofs.Tallies.{raised}
-use Rattle.cells.proofs.tally.raise.Statement.{statement}
-use Rattle.cells.proofs.tally.raise.Tie as tie
+use Rattle.tally.proofs.Tallies.{raised}
+use Rattle.tally.proofs.raise.Statement.{statement}
+use Rattle.tally.proofs.raise.Tie as tie
 
 returns : tie.Need-returns
 returns c = let start : tie.Start = search in raised _ _ (start .pre .1) (start .pre .0)

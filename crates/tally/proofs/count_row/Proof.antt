@@ -1,9 +1,10 @@
 use native.Mathlib.Omega.{arith}
 use borrow.Author.Needs.{needs}
-use borrow.Author.Tests.{not-false, not-true}
-use Rattle.cells.proofs.Tallies.{raise-room, raised-most, word-counted, word-pair}
-use Rattle.cells.proofs.tally.count_row.Statement.{statement}
-use Rattle.cells.proofs.tally.count_row.Tie as tie
+use borrow.Author.Tests.{le-ltb, lt-ltb}
+use Rattle.tally.specs.Tallies.{placesOf}
+use Rattle.tally.proofs.Tallies.{raise-room, raised-most, word-fourth, word-pair, word-third}
+use Rattle.tally.proofs.count_row.Statement.{statement}
+use Rattle.tally.proofs.count_row.Tie as tie
 
 word-at-requires : tie.Need-word-at-requires
 word-at-requires c κs = let start : tie.Start = search in omega (arith, start .pre .0 .there)
@@ -35,15 +36,19 @@ raise-requires-4 c κs =
     let h = raised-most (raised-most (raised-most (start .pre .1) (a .raise .ensures)) (b .raise2 .ensures)) (d .raise3 .ensures) in
     (omega arith, h .size, raise-room _ h (omega arith))
 
+-- as many places are counted as the width asks for
 returns : tie.Need-returns
+unfolding placesOf
 returns c =
     let start : tie.Start = search in
     let w : tie.After-word-at = search in
     let a : tie.After-raise = search in
     let b : tie.After-raise2 = search in
-    rw (not-true (start .args .wide) (c .if1 .taken)) (word-pair (start .pre .0) (w .word-at .ensures) (a .raise .ensures) (b .raise2 .ensures))
+    let two = word-pair (start .pre .0) (w .word-at .ensures) (start .pre .1 .size) (a .raise .ensures) (b .raise2 .ensures) in
+    rw (lt-ltb (start .args .k) 3 (omega (arith, c .if1 .taken))) two
 
 returns-2 : tie.Need-returns-2
+unfolding placesOf
 returns-2 c =
     let start : tie.Start = search in
     let w : tie.After-word-at = search in
@@ -51,10 +56,26 @@ returns-2 c =
     let b : tie.After-raise2 = search in
     let g : tie.Else1 = search in
     let d : tie.After-raise3 = search in
-    rw (not-false (start .args .wide) (g .if1 .left))
-    (word-counted (start .pre .0) (w .word-at .ensures) (word-pair (start .pre .0) (w .word-at .ensures) (a .raise .ensures) (b .raise2 .ensures)) (d .raise3 .ensures) (c .raise4 .ensures))
+    let two = word-pair (start .pre .0) (w .word-at .ensures) (start .pre .1 .size) (a .raise .ensures) (b .raise2 .ensures) in
+    let three = word-third (start .pre .0) (w .word-at .ensures) two (d .raise3 .ensures) in
+    rw (le-ltb (start .args .k) 3 (omega (arith, g .if1 .left)), lt-ltb (start .args .k) 4 (omega (arith, c .if2 .taken))) three
+
+returns-3 : tie.Need-returns-3
+unfolding placesOf
+returns-3 c =
+    let start : tie.Start = search in
+    let w : tie.After-word-at = search in
+    let a : tie.After-raise = search in
+    let b : tie.After-raise2 = search in
+    let g : tie.Else1 = search in
+    let d : tie.After-raise3 = search in
+    let f : tie.Else2 = search in
+    let two = word-pair (start .pre .0) (w .word-at .ensures) (start .pre .1 .size) (a .raise .ensures) (b .raise2 .ensures) in
+    let three = word-third (start .pre .0) (w .word-at .ensures) two (d .raise3 .ensures) in
+    let four = word-fourth (start .pre .0) (w .word-at .ensures) three (c .raise4 .ensures) in
+    rw (le-ltb (start .args .k) 3 (omega (arith, g .if1 .left)), le-ltb (start .args .k) 4 (omega (arith, f .if2 .left))) four
 
 pub count-row-spec : {M : Type 1} → statement M
 count-row-spec =
     tie.close
-    (tie.spec word-at-requires (λ c. search needs) raise-requires (λ c. search needs) raise-requires-2 returns (λ c. search needs) raise-requires-3 (λ c. search needs) raise-requires-4 returns-2)
+    (tie.spec word-at-requires (λ c. search needs) raise-requires (λ c. search needs) raise-requires-2 returns (λ c. search needs) raise-requires-3 returns-2 (λ c. search needs) raise-requires-4 returns-3)

@@ -1,0 +1,2 @@
+-- The counts of a word. Nothing here is proved: the laws stand in proofs/.
+pub mod Tallies

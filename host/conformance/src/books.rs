@@ -79,6 +79,28 @@ pub fn one_large_column() -> Vec<(usize, Book)> {
     (2..=4).flat_map(of_width).collect()
 }
 
+/// For each width from 2 to 4, a book of one forbidden sheet in which value 30 of the first column has rows among the last
+/// four of a word alone, which are walked by themselves. With it they forbid value 1 of the last column, and nothing else.
+pub fn last_four_forbidden() -> Vec<Book> {
+    let book = |width: usize| {
+        let mut counts = vec![2; width];
+        (counts[0], counts[width - 1]) = (32, 3);
+        let mut rows = Vec::new();
+        for value in 0..30 {
+            for last in [0, 1] {
+                let mut row = vec![0; width];
+                (row[0], row[width - 1]) = (value, last);
+                rows.push(row);
+            }
+        }
+        let mut values = vec![vec![0, 1]; width];
+        (values[0], values[width - 1]) = (vec![30], vec![1]);
+        rows.extend(one_of_each(&values));
+        one_forbidden(&counts, rows)
+    };
+    (2..=4).map(book).collect()
+}
+
 /// Any book of the format, from one column alone to 33 blocks.
 pub fn any_book(random: &mut Random) -> Book {
     let size = random.below(10);

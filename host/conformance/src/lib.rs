@@ -36,8 +36,8 @@ mod twins;
 mod write;
 pub mod wrong;
 
-pub use books::{any_book, harbour, one_forbidden, one_large_column, one_of_each, one_sheet};
-pub use books::{plant, regular, tiny, BOARD, MOTOR, WIDTH};
+pub use books::{any_book, harbour, last_four_forbidden, one_forbidden, one_large_column};
+pub use books::{one_of_each, one_sheet, plant, regular, tiny, BOARD, MOTOR, WIDTH};
 pub use case::{Case, Mend};
 pub use compare::{agreed, agreed_answers, agreed_run, compare, compare_run};
 pub use compare::{Calls, FENCE, LIBRARY};

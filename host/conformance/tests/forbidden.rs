@@ -3,8 +3,8 @@
 //!
 //! `FITTING_TWINS` asks for more books with a twin than the usual number.
 
-use conformance::{agreed_answers, back, every_mask, has_forbidden, narrow, one_forbidden};
-use conformance::{one_large_column, one_of_each, space_for, turned_over};
+use conformance::{agreed_answers, back, every_mask, has_forbidden, last_four_forbidden, narrow};
+use conformance::{one_forbidden, one_large_column, one_of_each, space_for, turned_over};
 use conformance::{Book, Order, Seen, Sheet, Tally, Twins, FINISH, MARK};
 
 const TWINS: Twins = Twins {
@@ -219,6 +219,19 @@ fn one_large_column_in_every_place() {
         let mut domains = vec![7; width];
         domains[place] = !(1 << 5);
         assert_eq!(shown[0].domains[..width], domains, "{counts:?}");
+    }
+}
+
+/// Rows that are live among the last four of a word alone: the value that they forbid goes, at whatever place it is the
+/// last.
+#[test]
+fn the_last_four_rows_of_a_word_are_counted() {
+    for book in last_four_forbidden() {
+        let last = book.counts.len() - 1;
+        let orders = [MARK, narrow(0, 1 << 30), back(1), narrow(last as u8, 2)];
+        let shown = agreed_answers(&book, &orders);
+        assert_eq!(shown[2].domains[last], 0b101, "{:?}", book.counts);
+        assert_eq!(shown[4].domains[0] >> 30, 0b10, "{:?}", book.counts);
     }
 }
 

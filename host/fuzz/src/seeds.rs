@@ -1,8 +1,9 @@
 //! The first inputs of a fuzz run: the conformance kit, small sweeps, and seeded books and lists.
 
 use crate::{described, described_by_seed, raw, LONGEST_INPUT, MENDED};
-use conformance::{back, changed, contradicting, finish, harbour, kit, narrow, one_forbidden};
-use conformance::{one_large_column, one_sheet, regular, rising_rows, stairs, tiny};
+use conformance::{back, changed, contradicting, finish, harbour, kit, last_four_forbidden};
+use conformance::{narrow, one_forbidden, one_large_column, one_sheet, regular, rising_rows};
+use conformance::{stairs, tiny};
 use conformance::{tries_of_contradicting, write, Book, Case, Run, Sheet, ANY, FINISH, MARK};
 use std::ops::Range;
 
@@ -38,6 +39,7 @@ pub fn seeds(count: u64) -> Vec<Vec<u8>> {
     seeds.extend(limits());
     seeds.extend(forbidden_sheets());
     seeds.extend(large_columns());
+    seeds.extend(last_four_counted());
     seeds.extend(rows_that_dont_rise());
     for seed in 0..count {
         let run = Run::new(seed);
@@ -246,6 +248,24 @@ fn large_columns() -> Vec<Vec<u8>> {
         for book in [whole, nearly] {
             seeds.extend(both(&write(&book), &orders.concat()));
         }
+    }
+    seeds
+}
+
+/// Forbidden sheets that are counted in a state in which a word has rows among its last four alone.
+fn last_four_counted() -> Vec<Vec<u8>> {
+    let mut seeds = Vec::new();
+    for book in last_four_forbidden() {
+        let last = book.counts.len() as u8 - 1;
+        let orders = [
+            MARK,
+            narrow(0, 1 << 30),
+            FINISH,
+            back(1),
+            narrow(last, 2),
+            FINISH,
+        ];
+        seeds.extend(both(&write(&book), &orders.concat()));
     }
     seeds
 }

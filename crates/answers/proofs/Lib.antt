@@ -1,4 +1,3 @@
--- The laws of an answer's bytes, of the counts, and of both in a space.
+-- The laws of an answer's bytes, and of answers in a space.
 pub mod Answers
-pub mod Hands
 pub mod Spaces

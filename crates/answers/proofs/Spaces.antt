@@ -5,13 +5,12 @@ use Prim.Native.Nat.{◌*◌, ◌+◌, ◌-◌, ◌<◌, ◌≤◌, suc, zero, �
 use native.Mathlib.Nat.{le_of_suc-le-suc}
 use native.Mathlib.Omega.{arith}
 use lib.ListN.{drop, get_or, length, length-append, length-drop, take}
-use lib.Seq.{drop-append-add, drop_at, drop-drop, get_or-append-add, get_or-drop, take_at}
-use Rattle.model.specs.Answers.{Answer, all_bytes, answer_at, answer_bytes, count_bytes, count_in}
-use Rattle.fields.specs.Bytes.{byte_at, over}
-use Rattle.fields.proofs.Bytes.{over_next}
+use lib.Seq.{drop-append-add, drop_at, drop-drop, take_at}
+use Rattle.model.specs.Answers.{Answer, all_bytes, answer_at, answer_bytes}
+use Rattle.fields.specs.Bytes.{over}
 use Rattle.model.proofs.Answers.{answer-length}
 use Rattle.answers.proofs.Answers.{answer_next}
-use Rattle.answers.specs.Spaces.{Adds, ended, written}
+use Rattle.answers.specs.Spaces.{Adds, written}
 
 pub length_all : (xs : List Answer) → length (all_bytes xs) ≡ 72 * length xs
 unfolding all_bytes
@@ -47,10 +46,10 @@ adds i a space xs old n room e =
     let z : length (xs ++ (a ∷ [])) ≡ i + 1 = length-append xs (a ∷ []) ∙ ap (λ (j : ℕ). j + 1) n in
     rw (all_more xs a, z) (answer_next (all_bytes xs) old (answer_bytes a) i (e ∙ ap (λ (j : ℕ). all_bytes xs ++ drop j old) k) (length_all xs ∙ k) (answer-length a))
 
--- the part for answer i holds it, whatever stands behind the answers
-pub answer_part : (xs : List Answer) (rest : List ℕ) (i : ℕ) (d : Answer) → i < length xs → answer_at (all_bytes xs ++ rest) i ≡ answer_bytes (get_or xs i d)
+-- the part for answer i holds it
+pub answer_part : (xs : List Answer) (space : List ℕ) (i : ℕ) (d : Answer) → i < length xs → answer_at (written xs space) i ≡ answer_bytes (get_or xs i d)
 unfolding all_bytes
-answer_part xs rest i d l = go xs rest i l
+answer_part xs space i d l = go xs (drop (72 * length xs) space) i l
   where
     go : (xs : List Answer) (rest : List ℕ) (i : ℕ) → i < length xs → take 72 (drop (72 * i) (all_bytes xs ++ rest)) ≡ answer_bytes (get_or xs i d)
     go [] rest i l = absurd (omega arith)
@@ -63,60 +62,3 @@ answer_part xs rest i d l = go xs rest i l
         ∙ sym (drop-drop (72 * i) 72 _)
         ∙ ap (drop (72 * i)) (drop_at (answer_bytes a) _ 72 (answer-length a)))
         ∙ go xs rest i (le_of_suc-le-suc l)
-
--- ---- the counts behind the answers
-pub length_counts : (f : ℕ → ℕ) → length (count_bytes f) ≡ 8
-unfolding count_bytes
-length_counts f = refl
-
-pub ended-over : (xs : List Answer) {space : List ℕ} (old : List ℕ) (f : ℕ → ℕ) {at : ℕ} → at ≡ 72 * length xs → space ≡ written xs old
-    → over space at (count_bytes f) ≡ ended xs f old
-ended-over xs {space} old f e w =
-    rw e
-    (over_next space (all_bytes xs) (count_bytes f) old (72 * length xs) (72 * length xs + 8) (length_all xs) (omega (arith, length_counts f)) w
-    ∙ append_assoc (all_bytes xs) (count_bytes f) (drop (72 * length xs + 8) old))
-
-module _ (xs : List Answer) (f : ℕ → ℕ) (space : List ℕ) where
-  pub length-ended : 72 * length xs + 8 ≤ length space → length (ended xs f space) ≡ length space
-  length-ended l =
-      omega (
-        arith,
-        length-append (all_bytes xs) (count_bytes f ++ drop (72 * length xs + 8) space),
-        length-append (count_bytes f) (drop (72 * length xs + 8) space),
-        length_all xs,
-        length_counts f,
-        length-drop (72 * length xs + 8) space,
-      )
-
-  -- what stands behind the answers
-  behind : (j : ℕ) → byte_at (ended xs f space) (72 * length xs + j) ≡ byte_at (count_bytes f ++ drop (72 * length xs + 8) space) j
-  behind j =
-      ap (λ (n : ℕ). byte_at (ended xs f space) (n + j)) (sym (length_all xs))
-      ∙ get_or-append-add (all_bytes xs) (count_bytes f ++ drop (72 * length xs + 8) space) j 0
-
-  -- "Later bytes of the space are untouched"
-  pub ended_later : (j : ℕ) → 72 * length xs + 8 ≤ j → byte_at (ended xs f space) j ≡ byte_at space j
-  ended_later j l =
-      let k : j ≡ 72 * length xs + (8 + (j - (72 * length xs + 8))) = omega arith in
-      let m : 72 * length xs + 8 + (j - (72 * length xs + 8)) ≡ j = omega arith in
-      ap (byte_at (ended xs f space)) k
-      ∙ behind (8 + (j - (72 * length xs + 8)))
-      ∙ ap (λ (n : ℕ). byte_at (count_bytes f ++ drop (72 * length xs + 8) space) (n + (j - (72 * length xs + 8)))) (sym (length_counts f))
-      ∙ get_or-append-add (count_bytes f) (drop (72 * length xs + 8) space) (j - (72 * length xs + 8)) 0
-      ∙ get_or-drop (72 * length xs + 8) space (j - (72 * length xs + 8)) 0
-      ∙ ap (byte_at space) m
-
-  -- the count of hand h reads as what it is
-  pub count-back : (n h : ℕ) → length xs ≡ n + 1 → h < 4 → f h < 65536 → count_in (ended xs f space) n h ≡ f h
-  unfolding count_bytes
-  count-back n h e l s = go h l s
-    where
-      at : (j k : ℕ) → k ≡ 72 * length xs + j → byte_at (ended xs f space) k ≡ byte_at (count_bytes f ++ drop (72 * length xs + 8) space) j
-      at j k q = ap (byte_at (ended xs f space)) q ∙ behind j
-
-      go : (h : ℕ) → h < 4 → f h < 65536 → count_in (ended xs f space) n h ≡ f h
-      go zero l s = omega (arith, at 0 (72 * (n + 1) + 2 * 0) (omega arith), at 1 (72 * (n + 1) + 2 * 0 + 1) (omega arith))
-      go (suc zero) l s = omega (arith, at 2 (72 * (n + 1) + 2 * 1) (omega arith), at 3 (72 * (n + 1) + 2 * 1 + 1) (omega arith))
-      go (suc (suc zero)) l s = omega (arith, at 4 (72 * (n + 1) + 2 * 2) (omega arith), at 5 (72 * (n + 1) + 2 * 2 + 1) (omega arith))
-      go (suc (suc (suc zero))) l s = omega (arith, at 6 (72 * (n + 1) + 2 * 3) (omega arith), at 7 (72 * (n + 1) + 2 * 3 + 1) (omega arith))
-      go (suc (suc (suc (suc h)))) l s = absurd (omega arith)

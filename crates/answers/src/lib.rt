@@ -1,15 +1,10 @@
-// answers: an answer as its 72 bytes, and its place in the answer space; behind the last one the counts of the hands. What an answer says is not decided
-// here.
+// answers: an answer as its 72 bytes, and its place in the answer space. What the answer says is not decided here.
 //
-// Promise: `write` ensures an equation for the whole space: the 72 bytes of answer i stand in their part, and every other byte is as it was. So does
-// `put_counts` of the eight bytes of the counts. The layout is drawn in the model's specs/Answers.antt.
+// Promise: `write` ensures an equation for the whole space: the 72 bytes of answer i stand in their part, and every other byte is as it was. The
+// layout is drawn in the model's specs/Answers.antt.
 //
-//     0          72         144             72 n       72 n + 72   72 n + 80
-//     | answer 0 | answer 1 | ..            | answer n | counts    | untouched
-//
-//   hand     who clicked: the accepted orders of each hand
-pub mod hand;
-
+//     0          72         144             72 i       72 i + 72
+//     | answer 0 | answer 1 | ..            | answer i | untouched
 ghost use Rattle.std.specs.Prelude.{◌≡◌, ◌∷◌, ◌*◌, ◌+◌, ◌≤◌, length};
 ghost use Rattle.fields.specs.Bytes.{half_bytes, over};
 ghost use Rattle.model.specs.Answers.{answer_bytes, domain_bytes};

@@ -1,14 +1,13 @@
 -- What `fitting_check` and `fitting_run` give on worked examples: harbour book H, also with a short row or a forbidden pair, each refusal with a place, and whole runs
 -- over a book of one column with one value. Proved in proofs/Acceptance.antt.
 use Rattle.std.specs.Prelude.{◌≡◌, false, true, List, [], ◌++◌, ◌∷◌, ℕ, replicate, set, take}
-use Rattle.model.specs.Acceptance.{HA, HF, by, mark, narrow, unknown}
+use Rattle.model.specs.Acceptance.{HA, HF}
 use Rattle.heads.specs.Acceptance.{head, padded}
 use Rattle.rows.specs.Acceptance.{both, both_head, both_rows, clash, harbour, long_rows, rows0, rows1, sealed, tiny, tiny_head}
 use Rattle.book.specs.Decoding.{book_of}
 use Rattle.rows.specs.Rows.{fault, first_fault, not_zero, too_large}
 use Rattle.book.specs.Verdicts.{check_result, refused}
 use Rattle.runs.specs.Results.{run_refusal, run_result, run_space, wrong_list}
-use Rattle.promises.specs.Hands.{HandsAside}
 use Rattle.promises.specs.Promises.{ComparedRuns}
 use Rattle.promises.specs.Twins.{TwinRuns}
 
@@ -72,13 +71,9 @@ pub record ForbiddenPairFacts : Type 0 where
   -- "A buyer's comparison between lists covers mixed books.": any two lists over it, as over every book
   pub compared : (x y : List ℕ) → ComparedRuns forbidden_pair x y
 
--- a mark of hand 3, a narrow of column 0 to no value, of hand 1, an order of no kind
+-- a mark, a narrow of column 0 to no value, an order of no kind
 abbrev pub three_orders : List ℕ
-three_orders = by 3 mark ++ by 1 (narrow 0 0) ++ by 1 unknown
-
--- the same, each of another hand
-abbrev pub other_hands : List ℕ
-other_hands = by 0 mark ++ by 3 (narrow 0 0) ++ by 0 unknown
+three_orders = (2 ∷ 0 ∷ 0 ∷ 0 ∷ 0 ∷ 0 ∷ 0 ∷ 0 ∷ []) ++ (1 ∷ 0 ∷ 0 ∷ 0 ∷ 0 ∷ 0 ∷ 0 ∷ 0 ∷ []) ++ (9 ∷ 0 ∷ 0 ∷ 0 ∷ 0 ∷ 0 ∷ 0 ∷ 0 ∷ [])
 
 -- 72 bytes of an answer: refusal r, status s, depth d, the domain m of column 0, and zeros
 abbrev pub tiny_answer : ℕ → ℕ → ℕ → ℕ → List ℕ
@@ -91,21 +86,13 @@ pub record RunFacts : Type 0 where
   -- "256 orders run, 257 give 10"
   pub orders_256 : wrong_list (replicate 2048 0) ≡ false
   pub orders_257 : wrong_list (replicate 2056 0) ≡ true
-  -- "11 if the answer space is shorter than 72 × (n + 1) for n orders, place that many bytes"; request W7: "8 more bytes are needed and refusal 11 says so"
-  pub old_space : run_refusal tiny three_orders 288 ≡ refused 11 296
-  pub short_space : run_refusal tiny three_orders 295 ≡ refused 11 296
-  pub exact_space : run_refusal tiny three_orders 296 ≡ 0
+  -- "11 if the answer space is shorter than 72 × (n + 1) for n orders, place that many bytes"
+  pub short_space : run_refusal tiny three_orders 287 ≡ refused 11 288
+  pub exact_space : run_refusal tiny three_orders 288 ≡ 0
   -- "Accepted: the number of accepted orders"
-  pub two_accepted : run_result tiny three_orders 296 ≡ 2
-  -- the answers, "after the last answer … four 16-bit counts", and "Later bytes of the space are untouched"
-  pub four_answers : run_space tiny three_orders (replicate 298 7)
-      ≡ tiny_answer 0 2 0 1
-      ++ tiny_answer 0 2 1 1
-      ++ tiny_answer 0 0 1 0
-      ++ tiny_answer 20 0 1 0
-      ++ (0 ∷ 0 ∷ 1 ∷ 0 ∷ 0 ∷ 0 ∷ 1 ∷ 0 ∷ [])
-      ++ (7 ∷ 7 ∷ [])
-  -- "Among hands 0 to 3, changing only hands changes no answer but these counts."
-  pub other_hands_shown : HandsAside tiny three_orders other_hands
+  pub two_accepted : run_result tiny three_orders 288 ≡ 2
+  -- the answers, and "Later bytes of the space are untouched"
+  pub four_answers : run_space tiny three_orders (replicate 290 7)
+      ≡ tiny_answer 0 2 0 1 ++ tiny_answer 0 2 1 1 ++ tiny_answer 0 0 1 0 ++ tiny_answer 20 0 1 0 ++ (7 ∷ 7 ∷ [])
   -- "a refused run writes nothing"
-  pub nothing_written : run_space tiny three_orders (replicate 295 7) ≡ replicate 295 7
+  pub nothing_written : run_space tiny three_orders (replicate 287 7) ≡ replicate 287 7

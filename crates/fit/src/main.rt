@@ -22,10 +22,9 @@ fn columns(book: &[u8]) -> usize
     c
 }
 
-// Runs the list, and puts the text of the run at the start of `out`. The opening and 256 orders have 257 answers of 72 bytes, and with
-// the counts 18,512 in all.
+// Runs the list, and puts the text of the run at the start of `out`. The opening and 256 orders have 257 answers of 72 bytes, 18,504 in all.
 fn put_run(book: &[u8], orders: &[u8], answers: &mut [u8], out: &mut [u8]) -> usize
-    requires { (length orders.now ≤ 2049) × (18512 ≤ length answers.old) × (65536 ≤ length out.old) }
+    requires { (length orders.now ≤ 2049) × (18504 ≤ length answers.old) × (65536 ≤ length out.old) }
     ensures { (take result out.new ≡ run_text book.now orders.now answers.old) × (result ≤ length out.new) }
 {
     let number = service::fitting_run(book, orders, answers);

@@ -10,7 +10,6 @@ unfolding computing domain_bytes number_in domain_fields answer_head answer_line
 text_facts =
     record {
       example = refl;
-      four_counts = refl;
       line_3 = refl;
       domain_bytes_shown = refl;
       none = refl;

@@ -87,6 +87,6 @@ unfolding printed
 printed_refused number columns n space h = rw (le-ltb number 65536 h)
 
 pub printed_accepted : (number columns n : ℕ) (space : List ℕ) → number < 65536
-    → answer_lines columns space (n + 1) ++ accepted_line n space ≡ printed number columns n space
+    → answer_lines columns space (n + 1) ++ accepted_line number ≡ printed number columns n space
 unfolding printed
 printed_accepted number columns n space h = rw (add-one, lt-ltb number 65536 h)

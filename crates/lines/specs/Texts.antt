@@ -3,7 +3,7 @@ use Rattle.std.specs.Prelude.{true, false, cond, List, [], ◌∷◌, ◌++◌, 
 use Prim.Native.Char.{code}
 use Prim.Native.String.{String}
 use Prim.Native.String.{[] as empty, ◌∷◌ as ◌then◌}
-use Rattle.model.specs.Answers.{answer_at, count_in, domain_in}
+use Rattle.model.specs.Answers.{answer_at, domain_in}
 use Rattle.fields.specs.Bytes.{byte_at}
 
 -- the bytes of letters, digits, spaces and newlines
@@ -53,10 +53,9 @@ answer_lines C space zero = []
 answer_lines C space (suc i) = answer_lines C space i ++ answer_line C i (answer_at space i)
 
 -- ---- a run
--- request W7: "The program's last line becomes accepted and the four counts.", which stand behind the n + 1 answers
-unfoldable pub accepted_line : ℕ → List ℕ → List ℕ
-accepted_line n space =
-    ascii "accepted" ++ field (count_in space n 0) ++ field (count_in space n 1) ++ field (count_in space n 2) ++ field (count_in space n 3) ++ newline
+-- "Last line: accepted and the count"
+unfoldable pub accepted_line : ℕ → List ℕ
+accepted_line k = ascii "accepted" ++ field k ++ newline
 
 -- "a refused run prints only: refused, number, place"; the run's number is "refusal × 65,536 + place"
 unfoldable pub refused_line : ℕ → List ℕ
@@ -64,4 +63,4 @@ refused_line r = ascii "refused" ++ field (r / 65536) ++ field (r % 65536) ++ ne
 
 -- the whole text of a run that returned r, on a book of C columns, with n orders: answers 0 to n, then the last line
 unfoldable pub printed : ℕ → ℕ → ℕ → List ℕ → List ℕ
-printed r C n space = cond (ltb r 65536) (answer_lines C space (suc n) ++ accepted_line n space) (refused_line r)
+printed r C n space = cond (ltb r 65536) (answer_lines C space (suc n) ++ accepted_line r) (refused_line r)

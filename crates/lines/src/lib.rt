@@ -1,16 +1,16 @@
 // lines: the text of a run, put into a buffer. No input or output belongs to this crate: a program hands it the run's number and the answers, and
 // writes the buffer out. Of the kit's crate io it takes the figures of a number alone.
 //
-// Promise: `print` puts `printed` (specs/Texts.antt) at the front of the buffer: the paper's line for each answer and its last line, with the counts of
-// the hands, or the one line of a refused run.
+// Promise: `print` puts `printed` (specs/Texts.antt) at the front of the buffer: the paper's line for each answer and its last line, or the one
+// line of a refused run.
 //
 // Each function takes the buffer and a place `at` in it, puts its text there and returns the place behind it.
 ghost use Rattle.std.specs.Prelude.{◌≡◌, [], ◌∷◌, ◌+◌, ◌*◌, ◌<◌, ◌≤◌, length, take};
-ghost use Rattle.model.specs.Answers.{count_in, domain_in};
+ghost use Rattle.model.specs.Answers.{domain_in};
 ghost use Rattle.lines.specs.Texts.{number as Texts·number, field, domain_fields, answer_head, answer_line, answer_lines, accepted_line, refused_line, printed};
 ghost use Rattle.lines.specs.Written.{Written};
 
-use fields::{half_at, word_at};
+use fields::word_at;
 
 fn put_byte(out: &mut [u8], at: usize, x: u8) -> usize
     requires { at < length out.old }
@@ -126,25 +126,13 @@ fn put_lines(out: &mut [u8], answers: &[u8], n: usize, columns: usize) -> usize
     next
 }
 
-// The count of hand h, behind the answers of n orders.
-fn put_count(out: &mut [u8], at: usize, answers: &[u8], n: usize, h: usize) -> usize
-    requires { (h < 4) × (n ≤ 256) × (72 * n + 80 ≤ length answers.now) × (at + 21 ≤ length out.old) }
-    ensures { Written 21 out.old out.new at result (field (count_in answers.now n h)) }
-{
-    let count = half_at(answers, 72 * (n + 1) + 2 * h);
-    put_field(out, at, count as u64)
-}
-
-fn put_accepted(out: &mut [u8], at: usize, answers: &[u8], n: usize) -> usize
-    requires { (n ≤ 256) × (72 * n + 80 ≤ length answers.now) × (at + 128 ≤ length out.old) }
-    ensures { Written 93 out.old out.new at result (accepted_line n answers.now) }
+fn put_accepted(out: &mut [u8], at: usize, count: u64) -> usize
+    requires { at + 64 ≤ length out.old }
+    ensures { Written 30 out.old out.new at result (accepted_line count) }
 {
     let word = put(out, at, b"accepted");
-    let first = put_count(out, word, answers, n, 0);
-    let second = put_count(out, first, answers, n, 1);
-    let third = put_count(out, second, answers, n, 2);
-    let fourth = put_count(out, third, answers, n, 3);
-    put_byte(out, fourth, 10)
+    let field = put_field(out, word, count);
+    put_byte(out, field, 10)
 }
 
 fn put_refused(out: &mut [u8], at: usize, number: u64) -> usize
@@ -159,12 +147,12 @@ fn put_refused(out: &mut [u8], at: usize, number: u64) -> usize
 
 // The text of a run that returned `number`, on a book of so many columns, with n orders, from the start of the buffer.
 pub fn print(number: u64, columns: usize, n: usize, answers: &[u8], out: &mut [u8]) -> usize
-    requires { (columns ≤ 16) × (n ≤ 256) × (72 * n + 80 ≤ length answers.now) × (65536 ≤ length out.old) }
+    requires { (columns ≤ 16) × (n ≤ 256) × (72 * n + 72 ≤ length answers.now) × (65536 ≤ length out.old) }
     ensures { (take result out.new ≡ printed number columns n answers.now) × (result ≤ length out.new) × (length out.new ≡ length out.old) }
 {
     if 65536 <= number {
         return put_refused(out, 0, number);
     }
     let last = put_lines(out, answers, n, columns);
-    put_accepted(out, last, answers, n)
+    put_accepted(out, last, number)
 }

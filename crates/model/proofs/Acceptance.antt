@@ -8,15 +8,15 @@ use Rattle.model.specs.Closure.{strike, rounds, closureOf}
 use Rattle.model.specs.Choices.{any_choice, space, space_but}
 use Rattle.model.specs.Books.{in_domain, row_matches, is_row, allows, supports, supported_in, supported, closure}
 use Rattle.model.specs.Search.{open_column, value_of, try_each, search_from, searched}
-use Rattle.model.specs.Orders.{wrong_place, some_wrong, wrong_bytes, depth, before, first_cause, outside, refusal, push, trail_from, permits, allowed, domains}
-use Rattle.model.specs.Answers.{assigned, status_of, subsumed, done_of, outcome, showing, answer, answers_from, last_from, accepted_from, domain_bytes, answer_bytes, count_bytes}
+use Rattle.model.specs.Orders.{wrong_place, some_wrong, depth, before, first_cause, outside, refusal, push, trail_from, permits, allowed, domains}
+use Rattle.model.specs.Answers.{assigned, status_of, subsumed, done_of, outcome, showing, answer, answers_from, last_from, accepted_from, domain_bytes, answer_bytes}
 use Rattle.model.specs.States.{valid, valid_row, valid_rows_at, valid_word}
 use Rattle.model.specs.WrittenOut.{written_cell, written_row, written_sheet, written_out}
-use Rattle.model.specs.Acceptance.{TenFacts, SevenLines, SearchFacts, TriesFacts, RefusalFacts, HandFacts, ByteFacts, WrittenOutFacts, DoneFacts, ForbiddenFacts, MayDiffer}
+use Rattle.model.specs.Acceptance.{TenFacts, SevenLines, SearchFacts, TriesFacts, RefusalFacts, ByteFacts, WrittenOutFacts, DoneFacts, ForbiddenFacts, MayDiffer}
 
 -- opens every definition that an example computes with
 unfoldable pub computing : Unit {0}
-unfolding lowest all_below any_below all_in any_in sum count eq_list tab bit mask_of has store_of empty_store all_filled values strike rounds closureOf any_choice in_domain row_matches is_row allows supports supported_in supported closure wrong_place some_wrong wrong_bytes depth before first_cause outside refusal push trail_from permits allowed domains assigned status_of subsumed done_of outcome showing answer answers_from last_from accepted_from answer_bytes count_bytes open_column value_of try_each search_from searched
+unfolding lowest all_below any_below all_in any_in sum count eq_list tab bit mask_of has store_of empty_store all_filled values strike rounds closureOf any_choice in_domain row_matches is_row allows supports supported_in supported closure wrong_place some_wrong depth before first_cause outside refusal push trail_from permits allowed domains assigned status_of subsumed done_of outcome showing answer answers_from last_from accepted_from answer_bytes open_column value_of try_each search_from searched
 computing = tt
 
 pub ten_facts : TenFacts
@@ -63,8 +63,7 @@ pub refusal_facts : RefusalFacts
 unfolding computing
 refusal_facts =
     record {
-      narrow_hand_4 = refl;
-      narrow_hand_3 = refl;
+      narrow-byte-2 = refl;
       narrow_byte_3 = refl;
       narrow_column = refl;
       narrow_mask = refl;
@@ -75,22 +74,16 @@ refusal_facts =
       failed_back = refl;
       failed_refusal = refl;
       mark_argument = refl;
-      mark_hand_4 = refl;
-      mark_hand_3 = refl;
-      mark_byte_3 = refl;
       mark_last_byte = refl;
       mark_16 = refl;
       mark_17 = refl;
-      back_hand_4 = refl;
-      back_hand_3 = refl;
-      back_byte_3 = refl;
+      back-byte-2 = refl;
       back_last_byte = refl;
       back_0 = refl;
       back_above = refl;
       back_depth = refl;
       finish_argument = refl;
-      finish_hand_4 = refl;
-      finish_hand_3 = refl;
+      finish-byte-2 = refl;
       finish_byte_3 = refl;
       finish_last_byte = refl;
       finish_65536 = refl;
@@ -100,10 +93,6 @@ refusal_facts =
       kind_0 = refl;
       kind_7 = refl;
     }
-
-pub hand_facts : HandFacts
-unfolding computing
-hand_facts = record { counts = refl; total = refl; marked = refl; count_bytes_shown = refl }
 
 pub byte_facts : ByteFacts
 unfolding computing domain_bytes

@@ -10,14 +10,14 @@ use lib.Dec.{eqb, leb}
 use lib.ListN.{get_or, length}
 use borrow.Author.Tests.{eq-eqb, le-ltb, lt-leb}
 use Rattle.fields.specs.Bytes.{half_bytes}
-use Rattle.model.specs.Tests.{all_below, one_if, sum}
+use Rattle.model.specs.Tests.{all_below, one_if}
 use Rattle.model.specs.Masks.{bit, mask_of, size}
 use Rattle.model.specs.Stores.{has, Within, empty_store, all_filled}
 use Rattle.model.specs.Choices.{Lower}
 use Rattle.model.specs.Books.{Book, column_count, sheet_at, WellFormed, ConsistentStore, Stays, Fails, closure}
 use Rattle.model.specs.Solutions.{FirstSolution}
 use Rattle.model.specs.Search.{open_column, Searched, searched}
-use Rattle.model.specs.Orders.{kind, argument, mask, try_limit, wrong_bytes, Entry, narrowed, checkpoint, depth as depth_of, first_cause, outside, refusal, AcceptedFinish, push, allowed, domains}
+use Rattle.model.specs.Orders.{kind, argument, mask, try_limit, zero_places, some_wrong, Entry, narrowed, checkpoint, depth as depth_of, first_cause, outside, refusal, AcceptedFinish, push, allowed, domains}
 use Rattle.model.specs.Answers.{assigned, status_of, Subsumed, subsumed, done_of, Outcome, state_only, found, not_found, stopped, outcome_number, outcome_tries, outcome_masks, limited, outcome, showing, answer, answers_from, accepted_from, domain_bytes, answer_bytes}
 use Rattle.model.specs.Demands.{ChangesNothing, unrefused, unmasked, Demand2, ShowsState, ShowsFinish, EveryAnswer, DoneExactly, SameAllowed, SameFinish, finishing, Claim1, Claim2, ClaimTries}
 use Rattle.model.proofs.Tests.{all_below_e, and_false, either}
@@ -30,7 +30,6 @@ use Rattle.model.proofs.Outcomes.{LimitedTo, is_found, is_none, is_stopped, limi
 use Rattle.model.proofs.Trails.{allowed_store, domains_store, domains_closed, domains_mono, narrowed_e}
 use Rattle.model.proofs.Answers.{answer_finish, answer_other, answer_refused, bytes_0, bytes_6_on}
 use Rattle.model.proofs.Subsumptions.{subsumed_iff}
-use Rattle.model.proofs.Hands.{accepted_all, accepted_none}
 use Rattle.model.proofs.Refusals.{refusal_depth, outside_none, refusal-narrow, accepted_narrow, push_refused, push-narrow}
 
 -- ---- demand 1
@@ -40,17 +39,17 @@ refused_order b L o n =
     let e : push b L o ≡ L = push_refused b L o n in
     record { same_trail = e; shows = answer_other b L o (λ f. n f.accepted) ∙ ap (λ (M : List Entry). showing b M (refusal b L o) state_only) e }
 
-count-unrefused : (b : Book) (os : List (List ℕ)) (L : List Entry) → sum 4 (λ h. accepted_from b h L os) ≡ unrefused (answers_from b L os)
-unfolding answers_from unrefused
-count-unrefused b [] L = accepted_none b L
+count-unrefused : (b : Book) (os : List (List ℕ)) (L : List Entry) → accepted_from b L os ≡ unrefused (answers_from b L os)
+unfolding accepted_from answers_from unrefused
+count-unrefused b [] L = refl
 count-unrefused b (o ∷ os) L =
-    accepted_all b L o os ∙ ap₂ (λ (r n : ℕ). one_if (eqb r 0) + n) (sym (answer_refused b L o)) (count-unrefused b os (push b L o))
+    ap₂ (λ (r n : ℕ). one_if (eqb r 0) + n) (sym (answer_refused b L o)) (count-unrefused b os (push b L o))
 
-mask_0_accepted : (b : Book) (L : List Entry) (o : List ℕ) → kind o ≡ 1 → wrong_bytes o ≡ false → argument o < column_count b → mask o ≡ 0
+mask_0_accepted : (b : Book) (L : List Entry) (o : List ℕ) → kind o ≡ 1 → some_wrong (zero_places 1) o ≡ false → argument o < column_count b → mask o ≡ 0
     → refusal b L o ≡ 0
 unfolding first_cause
 mask_0_accepted b L o k n l z =
-    refusal-narrow b L o n k ∙ rw (lt-leb (column_count b) (argument o) l, outside-0)
+    refusal-narrow b L o (rw k n) k ∙ rw (lt-leb (column_count b) (argument o) l, outside-0)
   where
     no-bit : (v : ℕ) → (leb (get_or b.counts (argument o) 0) v && bit v (mask o)) ≡ false
     no-bit v =

@@ -13,7 +13,6 @@ pub mod Search
 pub mod Outcomes
 pub mod Trails
 pub mod Refusals
-pub mod Hands
 pub mod Answers
 pub mod Rows
 pub mod Settling

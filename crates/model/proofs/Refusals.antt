@@ -1,17 +1,19 @@
 -- Laws of refusals: each kind's causes in their order, what an accepted order tells, and what a refused one leaves. Assumes nothing.
-use mathlib.Core.Path.{◌≡◌, refl, sym, ◌∙◌}
-use mathlib.Core.Bool.{Bool, true, false, cond, ◌&&◌, ◌||◌, true≢false}
+use mathlib.Core.Path.{◌≡◌, ap, refl, sym, ◌∙◌}
+use mathlib.Core.Bool.{Bool, true, false, cond, not, ◌&&◌, ◌||◌, true≢false}
 use mathlib.Core.Logic.{◌⊎◌, inl, inr}
 use mathlib.Core.List.{List, [], ◌∷◌, ◌++◌}
 use Prim.Native.Nat.{ℕ, suc, ◌≤◌, ◌<◌}
 use native.Mathlib.Omega.{arith}
 use lib.Dec.{eqb, ltb, leb}
 use lib.ListN.{get_or}
+use Rattle.fields.specs.Bytes.{byte_at}
 use borrow.Author.Tests.{eqb-true, eqb-false, ne_eqb, ltb-false, leb-false}
 use Rattle.model.specs.Masks.{bit}
 use Rattle.model.specs.Books.{Book, column_count}
-use Rattle.model.specs.Orders.{by_kind, narrow_causes, mark_causes, back_causes, finish_causes, kind, argument, hand, is_other, mask, try_limit, zero_places, some_wrong, wrong_bytes, Entry, narrowed, checkpoint, depth, before, Cause, refuse◌if◌, first_cause, outside, refusal, push}
-use Rattle.model.proofs.Tests.{or_false_r, or_l, or_r, either, any_below_none}
+use Rattle.model.specs.Orders.{by_kind, narrow_causes, mark_causes, back_causes, finish_causes, otherCauses, kind, argument, mask, try_limit, zero_places, wrong_place, some_wrong, Entry, narrowed, checkpoint, depth, before, Cause, refuse◌if◌, first_cause, outside, refusal, push}
+use Rattle.model.proofs.Masks.{bit_of_zero}
+use Rattle.model.proofs.Tests.{or_l, or_r, either, any_below_none}
 
 -- of the list its depth alone counts
 pub refusal_depth : (b : Book) (L M : List Entry) (o : List ℕ) → depth L ≡ depth M → refusal b L o ≡ refusal b M o
@@ -39,26 +41,19 @@ unfolding first_cause
 small_cause n true cs l h = l
 small_cause n false cs l h = h
 
--- the kind is one of the four
-pub known_kind : (k : ℕ) → is_other k ≡ false → (k ≡ 1) ⊎ ((k ≡ 2) ⊎ ((k ≡ 3) ⊎ (k ≡ 4)))
-known_kind k e = go (either (eqb k 1)) (either (eqb k 2)) (either (eqb k 3)) (either (eqb k 4))
-  where
-    go : (eqb k 1 ≡ true) ⊎ (eqb k 1 ≡ false) → (eqb k 2 ≡ true) ⊎ (eqb k 2 ≡ false) → (eqb k 3 ≡ true) ⊎ (eqb k 3 ≡ false)
-        → (eqb k 4 ≡ true) ⊎ (eqb k 4 ≡ false) → (k ≡ 1) ⊎ ((k ≡ 2) ⊎ ((k ≡ 3) ⊎ (k ≡ 4)))
-    go (inl p) q r s = inl (eqb-true k 1 p)
-    go (inr p) (inl q) r s = inr (inl (eqb-true k 2 q))
-    go (inr p) (inr q) (inl r) s = inr (inr (inl (eqb-true k 3 r)))
-    go (inr p) (inr q) (inr r) (inl s) = inr (inr (inr (eqb-true k 4 s)))
-    go (inr p) (inr q) (inr r) (inr s) = absurd (true≢false (rw (p, q, r, s) at e))
+-- where no place must be zero, none is wrong
+none-wrong : (o : List ℕ) → some_wrong 0 o ≡ false
+unfolding some_wrong wrong_place
+none-wrong o = any_below_none 8 (wrong_place 0 o) (λ i l. ap (λ (t : Bool). t && not (eqb (byte_at o i) 0)) (bit_of_zero i))
 
 module _ (b : Book) (L : List Entry) (o : List ℕ) where
   -- ---- the refusal of each kind
-  pub refusal_bytes : is_other (kind o) ≡ false → wrong_bytes o ≡ true → refusal b L o ≡ 25
+  pub refusal-zero : some_wrong (zero_places (kind o)) o ≡ true → refusal b L o ≡ 25
   unfolding refusal first_cause
-  refusal_bytes k e = rw (k, e)
+  refusal-zero e = rw e
 
-  -- where its bytes are right, the kind's own causes count
-  module _ (e : wrong_bytes o ≡ false) where
+  -- where every byte that must be zero is, the kind's own causes count
+  module _ (e : some_wrong (zero_places (kind o)) o ≡ false) where
     pub refusal-narrow : kind o ≡ 1 → refusal b L o ≡ first_cause (narrow_causes b o)
     unfolding refusal first_cause
     refusal-narrow k = rw (e, k)
@@ -72,59 +67,50 @@ module _ (b : Book) (L : List Entry) (o : List ℕ) where
     refusal-back k = rw (e, k)
 
   -- a finish is refused by its bytes alone
-  pub refusal_finish : kind o ≡ 4 → refusal b L o ≡ cond (wrong_bytes o) 25 (first_cause (finish_causes o))
+  pub refusal_finish : kind o ≡ 4 → refusal b L o ≡ cond (some_wrong (zero_places 4) o) 25 (first_cause (finish_causes o))
   unfolding refusal first_cause
   refusal_finish k = rw k refl
 
-  pub refusal_other : is_other (kind o) ≡ true → refusal b L o ≡ 20
+  pub refusal_other : (kind o ≡ 1 → ⊥) → (kind o ≡ 2 → ⊥) → (kind o ≡ 3 → ⊥) → (kind o ≡ 4 → ⊥) → refusal b L o ≡ 20
   unfolding refusal first_cause
-  refusal_other k = rw k
+  refusal_other p q r s = rw (ne_eqb (kind o) 1 p, ne_eqb (kind o) 2 q, ne_eqb (kind o) 3 r, ne_eqb (kind o) 4 s, none-wrong o)
 
   -- a refusal fits a byte
   pub refusal_small : refusal b L o < 256
   unfolding refusal
   refusal_small =
-      small_cause 20 _ _ (omega arith)
-      (small_cause 25 _ _ (omega arith)
-      (go (either (eqb (kind o) 1)) (either (eqb (kind o) 2)) (either (eqb (kind o) 3)) (either (eqb (kind o) 4))))
+      small_cause 25 _ _ (omega arith)
+      (go (either (eqb (kind o) 1)) (either (eqb (kind o) 2)) (either (eqb (kind o) 3)) (either (eqb (kind o) 4)))
     where
       go : (eqb (kind o) 1 ≡ true) ⊎ (eqb (kind o) 1 ≡ false) → (eqb (kind o) 2 ≡ true) ⊎ (eqb (kind o) 2 ≡ false)
           → (eqb (kind o) 3 ≡ true) ⊎ (eqb (kind o) 3 ≡ false) → (eqb (kind o) 4 ≡ true) ⊎ (eqb (kind o) 4 ≡ false)
-          → first_cause (by_kind (kind o) (narrow_causes b o) (mark_causes (depth L)) (back_causes (depth L) o) (finish_causes o) []) < 256
+          → first_cause (by_kind (kind o) (narrow_causes b o) (mark_causes (depth L)) (back_causes (depth L) o) (finish_causes o) otherCauses) < 256
       go (inl k) p q r = rw k (small_cause 21 _ _ (omega arith) (small_cause 22 _ _ (omega arith) no_causes))
       go (inr k) (inl p) q r = rw (k, p) (small_cause 23 _ _ (omega arith) no_causes)
       go (inr k) (inr p) (inl q) r = rw (k, p, q) (small_cause 24 _ _ (omega arith) no_causes)
       go (inr k) (inr p) (inr q) (inl r) = rw (k, p, q, r) (small_cause 27 _ _ (omega arith) no_causes)
-      go (inr k) (inr p) (inr q) (inr r) = rw (k, p, q, r) no_causes
+      go (inr k) (inr p) (inr q) (inr r) = rw (k, p, q, r) (small_cause 20 _ _ (omega arith) no_causes)
 
   -- ---- what an accepted order tells
-  -- its kind is known and its bytes are right
-  accepted-causes : refusal b L o ≡ 0
-      → (is_other (kind o) ≡ false) × (wrong_bytes o ≡ false)
-      × (first_cause (by_kind (kind o) (narrow_causes b o) (mark_causes (depth L)) (back_causes (depth L) o) (finish_causes o) []) ≡ 0)
-  unfolding refusal
-  accepted-causes e =
-      let f = no_cause 19 _ _ e in
-      let g = no_cause 24 _ _ f.1 in
-      (f.0, g.0, g.1)
-
-  pub accepted_hand : refusal b L o ≡ 0 → hand o < 4
-  unfolding wrong_bytes
-  accepted_hand e = omega (arith, ltb-false 3 (hand o) (or_false_r (some_wrong (zero_places (kind o)) o) _ (accepted-causes e).1))
-
   pub accepted_narrow : kind o ≡ 1 → refusal b L o ≡ 0 → argument o < column_count b
+  unfolding refusal
   accepted_narrow k e =
-      let g = no_cause 20 _ _ (rw k at (accepted-causes e).2) in
+      let f = no_cause 24 _ _ (rw k at e) in
+      let g = no_cause 20 _ _ f.1 in
       leb-false _ _ g.0
 
   pub accepted_mark : kind o ≡ 2 → refusal b L o ≡ 0 → depth L ≡ 16 → ⊥
+  unfolding refusal
   accepted_mark k e q =
-      let g = no_cause 22 _ _ (rw k at (accepted-causes e).2) in
+      let f = no_cause 24 _ _ (rw k at e) in
+      let g = no_cause 22 _ _ f.1 in
       eqb-false (depth L) 16 g.0 q
 
   pub accepted_back : kind o ≡ 3 → refusal b L o ≡ 0 → (0 < argument o) × (argument o ≤ depth L)
+  unfolding refusal
   accepted_back k e =
-      let g = no_cause 23 _ _ (rw k at (accepted-causes e).2) in
+      let f = no_cause 24 _ _ (rw k at e) in
+      let g = no_cause 23 _ _ f.1 in
       go (either (eqb (argument o) 0)) (either (ltb (depth L) (argument o))) g.0
     where
       go : (eqb (argument o) 0 ≡ true) ⊎ (eqb (argument o) 0 ≡ false) → (ltb (depth L) (argument o) ≡ true) ⊎ (ltb (depth L) (argument o) ≡ false)
@@ -134,8 +120,10 @@ module _ (b : Book) (L : List Entry) (o : List ℕ) where
       go (inr p) (inr q) r = let n : argument o ≡ 0 → ⊥ = eqb-false (argument o) 0 p in (omega arith, ltb-false _ _ q)
 
   pub accepted_finish : kind o ≡ 4 → refusal b L o ≡ 0 → try_limit o ≤ 65535
+  unfolding refusal
   accepted_finish k e =
-      let g = no_cause 26 _ _ (rw k at (accepted-causes e).2) in
+      let f = no_cause 24 _ _ (rw k at e) in
+      let g = no_cause 26 _ _ f.1 in
       ltb-false _ _ g.0
 
   -- what holds of the trail as it is, and of what each accepted order makes of it, holds after the order

@@ -115,12 +115,6 @@ any_below_e (suc n) f e = go (or_e (f 0) _ e) (λ d. any_below_e n (λ j. f (suc
     go (inl p) k = (0, zero-lt-suc n, p)
     go (inr q) k = let r = k q in (suc r.0, omega arith, r.2)
 
-pub any_below_same : (n : ℕ) (f g : ℕ → Bool) → ((i : ℕ) → i < n → f i ≡ g i) → any_below n f ≡ any_below n g
-unfolding any_below
-any_below_same zero f g h = refl
-any_below_same (suc n) f g h =
-    ap₂ (λ (s t : Bool). s || t) (h 0 (zero-lt-suc n)) (any_below_same n (λ j. f (suc j)) (λ j. g (suc j)) (λ i l. h (suc i) (omega arith)))
-
 pub any_below_i : (n : ℕ) (f : ℕ → Bool) (i : ℕ) → i < n → f i ≡ true → any_below n f ≡ true
 unfolding any_below
 any_below_i zero f i h e = absurd (not-suc-le-zero h)
@@ -191,11 +185,6 @@ pub sum_same : (n : ℕ) (f g : ℕ → ℕ) → ((i : ℕ) → i < n → f i �
 unfolding sum
 sum_same zero f g h = refl
 sum_same (suc n) f g h = omega (arith, h 0 (zero-lt-suc n), sum_same n (λ j. f (suc j)) (λ j. g (suc j)) (λ i l. h (suc i) (omega arith)))
-
-pub sum_add : (n : ℕ) (f g : ℕ → ℕ) → sum n (λ i. f i + g i) ≡ sum n f + sum n g
-unfolding sum
-sum_add zero f g = refl
-sum_add (suc n) f g = omega (arith, sum_add n (λ j. f (suc j)) (λ j. g (suc j)))
 
 -- a sum that did not fall has every term as it was
 pub sum_eq : (n : ℕ) (f g : ℕ → ℕ) → ((i : ℕ) → i < n → f i ≤ g i) → sum n f ≡ sum n g → (i : ℕ) → i < n → f i ≡ g i

@@ -12,7 +12,7 @@ use Rattle.model.specs.Masks.{bit}
 use Rattle.model.specs.Stores.{has, Within, IsStore, meet}
 use Rattle.model.specs.Closure.{Between}
 use Rattle.model.specs.Books.{Book, column_count, supported, closure}
-use Rattle.model.specs.Orders.{Entry, hand, narrowed, checkpoint, depth, before, is_accepted, push, trail_from, permits, allowed, domains}
+use Rattle.model.specs.Orders.{Entry, narrowed, checkpoint, depth, before, is_accepted, push, trail_from, permits, allowed, domains}
 use Rattle.model.specs.Answers.{Answer, answer, answers_from, last_from, accepted_from}
 use Rattle.model.proofs.Tests.{and_l, and_r, and_i, and_true, and_assoc}
 use Rattle.model.proofs.Stores.{has_i, has_e, store_of_same, is_store, meet-has, meet_store}
@@ -37,11 +37,11 @@ unfolding last_from trail_from
 last_snoc b L a [] o = refl
 last_snoc b L a (p ∷ os) o = last_snoc b (push b L p) (answer b L p) os o
 
-pub accepted_snoc : (b : Book) (h : ℕ) (L : List Entry) (os : List (List ℕ)) (o : List ℕ)
-    → accepted_from b h L (os ++ (o ∷ [])) ≡ accepted_from b h L os + one_if (is_accepted b (trail_from b L os) o && eqb (hand o) h)
+pub accepted_snoc : (b : Book) (L : List Entry) (os : List (List ℕ)) (o : List ℕ)
+    → accepted_from b L (os ++ (o ∷ [])) ≡ accepted_from b L os + one_if (is_accepted b (trail_from b L os) o)
 unfolding accepted_from trail_from
-accepted_snoc b h L [] o = omega arith
-accepted_snoc b h L (p ∷ os) o = omega (arith, accepted_snoc b h (push b L p) os o)
+accepted_snoc b L [] o = omega arith
+accepted_snoc b L (p ∷ os) o = omega (arith, accepted_snoc b (push b L p) os o)
 
 -- ---- checkpoints
 pub depth_narrowed : (L : List Entry) (c m : ℕ) → depth (L ++ (narrowed c m ∷ [])) ≡ depth L

@@ -14,8 +14,8 @@ use Rattle.model.specs.Stores.{has, Within, IsStore, assign, all_filled, values}
 use Rattle.model.specs.Choices.{pick, Takes, any_choice, every_choice}
 use Rattle.model.specs.Books.{Sheet, Book, column_count, sheet_at, allows, WellFormed, supports, supported_in, supported, closure}
 use Rattle.model.specs.Search.{after, open_column, Searched, search_from, searched}
-use Rattle.model.specs.Orders.{Entry, by_kind, hand, kind, try_limit, depth, outside, refusal, is_accepted, push, permits, allowed, domains}
-use Rattle.model.specs.Answers.{assigned, status_of, subsumed, done_of, Answer, Outcome, state_only, outcome_number, outcome_tries, outcome_masks, limited, outcome, showing, answer, answers_from, answers, accepted_by, accepted_from}
+use Rattle.model.specs.Orders.{Entry, by_kind, kind, try_limit, depth, outside, refusal, is_accepted, push, permits, allowed, domains}
+use Rattle.model.specs.Answers.{assigned, status_of, subsumed, done_of, Answer, Outcome, state_only, outcome_number, outcome_tries, outcome_masks, limited, outcome, showing, answer, answers_from, answers, accepted_from, accepted_count}
 use Rattle.model.specs.Twins.{Combination, TwinSheets, Twins, TwinsAnswer}
 use Rattle.model.proofs.Tests.{and_l, all_in_same, either}
 use Rattle.model.proofs.Masks.{mask_of_same}
@@ -147,10 +147,10 @@ module _ (b : Book) (p : WellFormed b) (ts : List Sheet) (h : Twins b (twin b ts
   answers-twin [] L = refl
   answers-twin (o ∷ os) L = ap₂ (λ (a : Answer) (l : List Answer). a ∷ l) (answer-twin L o) (answers-twin os (push b L o))
 
-  accepted-twin : (h : ℕ) (os : List (List ℕ)) (L : List Entry) → accepted_from b h L os ≡ accepted_from (twin b ts) h L os
+  accepted-twin : (os : List (List ℕ)) (L : List Entry) → accepted_from b L os ≡ accepted_from (twin b ts) L os
   unfolding accepted_from push refusal outside
-  accepted-twin h [] L = refl
-  accepted-twin h (o ∷ os) L = ap (λ (n : ℕ). one_if (is_accepted b L o && eqb (hand o) h) + n) (accepted-twin h os (push b L o))
+  accepted-twin [] L = refl
+  accepted-twin (o ∷ os) L = ap (λ (n : ℕ). one_if (is_accepted b L o) + n) (accepted-twin os (push b L o))
 
 -- the claim of specs/Twins.antt
 pub twins_answer : TwinsAnswer
@@ -159,8 +159,8 @@ twins_answer b c p h =
       every = λ os.
           ap₂ (λ (a : Answer) (l : List Answer). a ∷ l) (showing-twin b p c.sheets k [] 0 state_only) (answers-twin b p c.sheets k os [])
           ∙ ap (λ (counts : List ℕ). answers (record { counts = counts; sheets = c.sheets }) os) h.same_counts;
-      accepted = λ os g.
-          accepted-twin b p c.sheets k g os [] ∙ ap (λ (counts : List ℕ). accepted_by (record { counts = counts; sheets = c.sheets }) os g) h.same_counts;
+      accepted = λ os.
+          accepted-twin b p c.sheets k os [] ∙ ap (λ (counts : List ℕ). accepted_count (record { counts = counts; sheets = c.sheets }) os) h.same_counts;
     }
   where
     k : Twins b (twin b c.sheets)

@@ -1,14 +1,13 @@
 -- The examples of document 01 that the customer accepts by: harbour book H, the ten facts K1 to K10, the run of seven lines; and beside
--- them what the search finds and with how many tries, refusals, counts of hands, bytes, valid rows, done sheets, and what demand 3 leaves free. Each record is proved in proofs/Acceptance.antt under
+-- them what the search finds and with how many tries, refusals, bytes, valid rows, done sheets, and what demand 3 leaves free. Each record is proved in proofs/Acceptance.antt under
 -- its name with a small letter; `BooksWellFormed`, `RowFacts` and `AnyBoard` in proofs/Witness.antt.
-use Rattle.std.specs.Prelude.{◌≡◌, true, false, List, [], ◌∷◌, ◌++◌, ℕ, zero, suc, get_or, replicate, set}
+use Rattle.std.specs.Prelude.{◌≡◌, true, false, List, [], ◌∷◌, ◌++◌, ℕ, zero, suc, replicate}
 use Rattle.std.proofs.Math.Option.{none, some}
 use Rattle.fields.specs.Bytes.{byte_at}
-use Rattle.model.specs.Tests.{tab}
 use Rattle.model.specs.Books.{Sheet, Book, WellFormed, sheet_at}
 use Rattle.model.specs.Search.{searched}
 use Rattle.model.specs.Orders.{try_limit, Entry, checkpoint, refusal, trail, domains}
-use Rattle.model.specs.Answers.{Answer, answers, last_answer, accepted_by, accepted_count, answer_bytes, count_bytes}
+use Rattle.model.specs.Answers.{Answer, answers, last_answer, accepted_count, answer_bytes}
 use Rattle.model.specs.States.{choices_but, valid_rows_at, valid_word, StateOf}
 use Rattle.model.specs.Demands.{SameAllowed}
 use Rattle.model.specs.Twins.{SameAnswers}
@@ -162,8 +161,7 @@ checkpoints (suc n) = checkpoint ∷ checkpoints n
 
 pub record RefusalFacts : Type 0 where
   -- narrow: 25, then 21, then 22
-  pub narrow_hand_4 : refusal H [] (order 1 3 4 0 255 0) ≡ 25
-  pub narrow_hand_3 : refusal H [] (order 1 0 3 0 7 0) ≡ 0
+  pub narrow-byte-2 : refusal H [] (order 1 3 1 0 255 0) ≡ 25
   pub narrow_byte_3 : refusal H [] (order 1 3 0 1 255 0) ≡ 25
   pub narrow_column : refusal H [] (order 1 3 0 0 255 0) ≡ 21
   pub narrow_mask : refusal H [] (order 1 1 0 0 4 0) ≡ 22
@@ -177,24 +175,18 @@ pub record RefusalFacts : Type 0 where
   pub failed_refusal : last_answer H (narrow 1 0 ∷ back 1 ∷ []) ≡ line 24 0 0 0 0 (0 ∷ 0 ∷ 0 ∷ [])
   -- mark: 25, then 23; "mark 16 is accepted, mark 17 refused"
   pub mark_argument : refusal H (checkpoints 16) (order 2 1 0 0 0 0) ≡ 25
-  pub mark_hand_4 : refusal H (checkpoints 16) (order 2 0 4 0 0 0) ≡ 25
-  pub mark_hand_3 : refusal H (checkpoints 15) (order 2 0 3 0 0 0) ≡ 0
-  pub mark_byte_3 : refusal H (checkpoints 16) (order 2 0 0 1 0 0) ≡ 25
   pub mark_last_byte : refusal H (checkpoints 16) (order 2 0 0 0 0 1) ≡ 25
   pub mark_16 : refusal H (checkpoints 15) mark ≡ 0
   pub mark_17 : refusal H (checkpoints 16) mark ≡ 23
   -- back: 25, then 24
-  pub back_hand_4 : refusal H [] (order 3 0 4 0 0 0) ≡ 25
-  pub back_hand_3 : refusal H (checkpoints 2) (order 3 2 3 0 0 0) ≡ 0
-  pub back_byte_3 : refusal H [] (order 3 0 0 1 0 0) ≡ 25
+  pub back-byte-2 : refusal H [] (order 3 0 1 0 0 0) ≡ 25
   pub back_last_byte : refusal H [] (order 3 0 0 0 0 1) ≡ 25
   pub back_0 : refusal H (checkpoints 2) (back 0) ≡ 24
   pub back_above : refusal H (checkpoints 2) (back 3) ≡ 24
   pub back_depth : refusal H (checkpoints 2) (back 2) ≡ 0
-  -- finish: 25, "which covers only bytes 1 to 3 here", byte 2 by a hand above 3; then 27
+  -- finish: 25, "which covers only bytes 1 to 3 here", then 27
   pub finish_argument : refusal H [] (order 4 1 0 0 0 1) ≡ 25
-  pub finish_hand_4 : refusal H [] (order 4 0 4 0 0 1) ≡ 25
-  pub finish_hand_3 : refusal H [] (order 4 0 3 0 0 0) ≡ 0
+  pub finish-byte-2 : refusal H [] (order 4 0 1 0 0 1) ≡ 25
   pub finish_byte_3 : refusal H [] (order 4 0 0 1 0 1) ≡ 25
   pub finish_last_byte : refusal H [] (order 4 0 0 0 0 1) ≡ 27
   pub finish_65536 : refusal H [] (4 ∷ 0 ∷ 0 ∷ 0 ∷ 0 ∷ 0 ∷ 1 ∷ 0 ∷ []) ≡ 27
@@ -204,29 +196,7 @@ pub record RefusalFacts : Type 0 where
   pub finish_too_large : last_answer H (order 4 0 0 0 0 1 ∷ []) ≡ line 27 1 0 0 0 (7 ∷ 3 ∷ 3 ∷ [])
   -- "Other kinds are refused with 20, before the rest"
   pub kind_0 : refusal H [] (order 0 3 1 1 255 255) ≡ 20
-  pub kind_7 : refusal H [] (order 7 3 4 1 255 255) ≡ 20
-
--- an order of an unknown kind
-abbrev pub unknown : List ℕ
-unknown = 9 ∷ 0 ∷ 0 ∷ 0 ∷ 0 ∷ 0 ∷ 0 ∷ 0 ∷ []
-
--- ---- who clicked: an order as hand h gives it
-abbrev pub by : ℕ → List ℕ → List ℕ
-by h o = set o 2 h
-
--- hand 1 narrows, goes back to no mark, which is refused, and finishes; hand 3 marks; a kind that there is not, and a hand that there is not
-abbrev pub by_hands : List (List ℕ)
-by_hands = by 1 (narrow 2 1) ∷ by 1 (back 1) ∷ by 3 mark ∷ by 2 unknown ∷ by 4 mark ∷ by 1 finish ∷ []
-
-pub record HandFacts : Type 0 where
-  -- "a count for each hand"
-  pub counts : tab 5 (accepted_by H by_hands) ≡ 0 ∷ 2 ∷ 0 ∷ 1 ∷ 0 ∷ []
-  -- "The call still returns their sum."
-  pub total : accepted_count H by_hands ≡ 3
-  -- "changing only hands changes no answer": a mark by hand 3 is a mark
-  pub marked : last_answer H (by 3 mark ∷ by 2 (narrow 2 1) ∷ []) ≡ last_answer H (mark ∷ narrow 2 1 ∷ [])
-  -- "four 16-bit counts", hand 0 first, the lowest byte first
-  pub count_bytes_shown : count_bytes (λ h. get_or (1 ∷ 256 ∷ 258 ∷ 0 ∷ 7 ∷ []) h 0) ≡ 1 ∷ 0 ∷ 0 ∷ 1 ∷ 2 ∷ 1 ∷ 0 ∷ 0 ∷ []
+  pub kind_7 : refusal H [] (order 7 3 1 1 255 255) ≡ 20
 
 -- ---- bytes: "fields of several bytes have the lowest byte first"
 -- one column of 32 values, no sheet
@@ -373,6 +343,9 @@ pub record BooksWellFormed : Type 0 where
   pub all_forbidden : WellFormed (without four_rows)
 
 -- "Depth and byte 0 may differ between the lists": a mark, or an order of an unknown kind, after the opening
+abbrev pub unknown : List ℕ
+unknown = 9 ∷ 0 ∷ 0 ∷ 0 ∷ 0 ∷ 0 ∷ 0 ∷ 0 ∷ []
+
 pub record MayDiffer : Type 0 where
   pub same_marked : SameAllowed H (trail H []) (trail H (mark ∷ []))
   pub depths : (byte_at (answer_bytes (last_answer H [])) 2 ≡ 0) × (byte_at (answer_bytes (last_answer H (mark ∷ []))) 2 ≡ 1)

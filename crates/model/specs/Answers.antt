@@ -1,14 +1,14 @@
--- Status, done byte and answers, as values and as bytes; all answers of a list, and how many orders of each hand are accepted.
-use Rattle.std.specs.Prelude.{◌≡◌, Bool, ◌&&◌, cond, true, List, [], ◌∷◌, ◌++◌, map, ℕ, zero, suc, ◌+◌, ◌*◌, ◌^◌, eqb, leb, length, get_or, take, drop}
+-- Status, done byte and answers, as values and as bytes; all answers of a list, and the number of accepted orders.
+use Rattle.std.specs.Prelude.{◌≡◌, Bool, cond, true, List, [], ◌∷◌, ◌++◌, map, ℕ, zero, suc, ◌+◌, ◌*◌, ◌^◌, eqb, leb, length, get_or, take, drop}
 use Rattle.std.proofs.Math.Option.{none, some}
-use Rattle.fields.specs.Bytes.{half_at, half_bytes, word_at, word_bytes}
-use Rattle.model.specs.Tests.{all_below, one_if, sum, tab}
+use Rattle.fields.specs.Bytes.{half_bytes, word_at, word_bytes}
+use Rattle.model.specs.Tests.{all_below, one_if, tab}
 use Rattle.model.specs.Masks.{mask_of, size}
 use Rattle.model.specs.Stores.{all_filled}
 use Rattle.model.specs.Choices.{pick, Takes, every_choice}
 use Rattle.model.specs.Books.{Sheet, Book, column_count, sheet_at, allows}
 use Rattle.model.specs.Search.{Searched, searched}
-use Rattle.model.specs.Orders.{by_kind, kind, hand, try_limit, Entry, depth, refusal, is_accepted, push, domains}
+use Rattle.model.specs.Orders.{by_kind, kind, try_limit, Entry, depth, refusal, is_accepted, push, domains}
 
 -- ---- status and done
 -- every column holds one value
@@ -126,18 +126,14 @@ last_from b L a (o ∷ os) = last_from b (push b L o) (answer b L o) os
 abbrev pub last_answer : Book → List (List ℕ) → Answer
 last_answer b os = last_from b [] (opening b) os
 
--- how many orders of the hand h, of a list that comes when L stands, are accepted
-unfoldable pub accepted_from : Book → ℕ → List Entry → List (List ℕ) → ℕ
-accepted_from b h L [] = 0
-accepted_from b h L (o ∷ os) = one_if (is_accepted b L o && eqb (hand o) h) + accepted_from b h (push b L o) os
+-- how many orders of a list that comes when L stands are accepted
+unfoldable pub accepted_from : Book → List Entry → List (List ℕ) → ℕ
+accepted_from b L [] = 0
+accepted_from b L (o ∷ os) = one_if (is_accepted b L o) + accepted_from b (push b L o) os
 
--- request W7: "a count for each hand"
-abbrev pub accepted_by : Book → List (List ℕ) → ℕ → ℕ
-accepted_by b os h = accepted_from b h [] os
-
--- "The call still returns their sum.": over hands 0 to 3
+-- "the number of accepted orders"
 abbrev pub accepted_count : Book → List (List ℕ) → ℕ
-accepted_count b os = sum 4 (accepted_by b os)
+accepted_count b os = accepted_from b [] os
 
 -- ---- the 72 bytes of an answer
 --
@@ -159,13 +155,6 @@ unfoldable pub all_bytes : List Answer → List ℕ
 all_bytes [] = []
 all_bytes (a ∷ xs) = answer_bytes a ++ all_bytes xs
 
--- request W7: "after the last answer come four 16-bit counts", f h that of hand h
---
---     0, 1     2, 3     4, 5     6, 7
---     hand 0   hand 1   hand 2   hand 3
-unfoldable pub count_bytes : (ℕ → ℕ) → List ℕ
-count_bytes f = half_bytes (f 0) ++ (half_bytes (f 1) ++ (half_bytes (f 2) ++ half_bytes (f 3)))
-
 -- answer i of an answer space
 abbrev pub answer_at : List ℕ → ℕ → List ℕ
 answer_at space i = take 72 (drop (72 * i) space)
@@ -173,7 +162,3 @@ answer_at space i = take 72 (drop (72 * i) space)
 -- domain c of an answer: "bytes 8 to 71 sixteen domains of 32 bits"
 abbrev pub domain_in : List ℕ → ℕ → ℕ
 domain_in a c = word_at a (8 + 4 * c)
-
--- the count of hand h in the space of n orders: "after the last answer"
-abbrev pub count_in : List ℕ → ℕ → ℕ → ℕ
-count_in space n h = half_at space (72 * (n + 1) + 2 * h)

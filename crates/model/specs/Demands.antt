@@ -1,5 +1,5 @@
 -- The demands, so far as they speak of the definitions: what demands 1 and 2 say, how demand 3 compares two lists, and at the end the claims,
--- which `claim1`, `claim2` and `claim_tries` of proofs/Demands.antt and `claim_hands` of proofs/Hands.antt prove. Demand 3 itself speaks of answers and sessions: `ComparedRuns` and `Demand3` (crate promises).
+-- which `claim1`, `claim2` and `claim_tries` of proofs/Demands.antt prove. Demand 3 itself speaks of answers and sessions: `ComparedRuns` and `Demand3` (crate promises).
 -- Quoted are the customer's demands and document 01.
 use Rattle.std.specs.Prelude.{◌≡◌, true, false, ◌↔◌, ◌⊎◌, List, [], ◌∷◌, map, ℕ, ◌+◌, ◌^◌, ◌≤◌, ◌<◌, eqb, length}
 use Rattle.std.proofs.Math.Option.{none, some}
@@ -11,7 +11,7 @@ use Rattle.model.specs.Choices.{Lower}
 use Rattle.model.specs.Books.{Book, column_count, sheet_at, WellFormed, Stays, Fails}
 use Rattle.model.specs.Solutions.{Solution, FirstSolution, NoSolution}
 use Rattle.model.specs.Search.{open_column, value_of, after, at_once, try_each, searched}
-use Rattle.model.specs.Orders.{kind, argument, mask, try_limit, hand, wrong_bytes, Entry, narrowed, checkpoint, refusal, AcceptedFinish, push, allowed, domains}
+use Rattle.model.specs.Orders.{kind, argument, mask, try_limit, zero_places, some_wrong, Entry, narrowed, checkpoint, refusal, AcceptedFinish, push, allowed, domains}
 use Rattle.model.specs.Answers.{status_of, Subsumed, Answer, Outcome, state_only, outcome_number, unlimited, limited, showing, answer, opening, answers_from, accepted_count, answer_bytes}
 
 -- ---- demand 1: orders over the book b
@@ -38,10 +38,10 @@ pub record Demand1 (b : Book) : Type 0 where
   -- narrows leave do not count: "Being dead is never a cause of refusal: a dead session gives the same refusals as an open one"
   pub by_list : (L M : List Entry) (o : List ℕ) → unmasked L ≡ unmasked M → refusal b L o ≡ refusal b M o
   -- "mask 0 is accepted": it is no cause
-  pub mask_0 : (L : List Entry) (o : List ℕ) → kind o ≡ 1 → wrong_bytes o ≡ false → argument o < column_count b → mask o ≡ 0 → refusal b L o ≡ 0
+  pub mask_0 : (L : List Entry) (o : List ℕ) → kind o ≡ 1 → some_wrong (zero_places 1) o ≡ false → argument o < column_count b → mask o ≡ 0 → refusal b L o ≡ 0
   -- "byte 0 the refusal or 0"
   pub byte_0 : (L : List Entry) (o : List ℕ) → byte_at (answer_bytes (answer b L o)) 0 ≡ refusal b L o
-  -- "Accepted: the number of accepted orders", now the sum over hands: as many as answers after the opening have no refusal
+  -- "Accepted: the number of accepted orders": as many as answers after the opening have no refusal
   pub counted : (os : List (List ℕ)) → accepted_count b os ≡ unrefused (answers_from b [] os)
 
 -- ---- demand 2
@@ -141,23 +141,7 @@ pub record TriesOfFinish (b : Book) : Type 0 where
   pub wider_first : (L M : List Entry) → Within (allowed b L) (allowed b M) → (x : List ℕ) → (searched b (domains b L)).solution ≡ some x
       → (y : List ℕ) × ((searched b (domains b M)).solution ≡ some y) × ((y ≡ x) ⊎ Lower y x)
 
--- ---- who clicked. Quoted is request W7
--- two orders that are equal but for the hand
-pub record SameButHand (o p : List ℕ) : Type 0 where
-  pub bytes : (i : ℕ) → (i ≡ 2 → ⊥) → byte_at o i ≡ byte_at p i
-  -- the hand is the same, or it is one "Among hands 0 to 3" in both
-  pub hands : (hand o ≡ hand p) ⊎ ((hand o ≤ 3) × (hand p ≤ 3))
-
--- "changing only hands changes no answer", when L stands: neither why the order is refused, nor what it leaves, nor what is shown
-pub record HandAside (b : Book) (L : List Entry) (o p : List ℕ) : Type 0 where
-  pub same_refusal : refusal b L o ≡ refusal b L p
-  pub same_trail : push b L o ≡ push b L p
-  pub same_answer : answer b L o ≡ answer b L p
-
 -- ---- the claims
-abbrev pub ClaimHands : Type 0
-ClaimHands = (b : Book) (L : List Entry) (o p : List ℕ) → SameButHand o p → HandAside b L o p
-
 abbrev pub Claim1 : Type 0
 Claim1 = (b : Book) → Demand1 b
 

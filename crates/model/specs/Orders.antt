@@ -1,21 +1,17 @@
 -- Orders, their refusals, and the trail (document 01: standing list): what stands, "from the book and the orders alone".
-use Rattle.std.specs.Prelude.{◌≡◌, Bool, true, false, not, cond, ◌&&◌, ◌||◌, List, [], ◌∷◌, ◌++◌, ℕ, zero, suc, eqb, ltb, leb, get_or}
+use Rattle.std.specs.Prelude.{◌≡◌, Bool, true, not, cond, ◌&&◌, ◌||◌, List, [], ◌∷◌, ◌++◌, ℕ, zero, suc, eqb, ltb, leb, get_or}
 use Rattle.fields.specs.Bytes.{byte_at, word_at}
 use Rattle.model.specs.Tests.{any_below}
 use Rattle.model.specs.Masks.{bit}
 use Rattle.model.specs.Stores.{store_of}
 use Rattle.model.specs.Books.{Book, column_count, closure}
 
--- ---- an order is its 8 bytes: "byte 0 kind, byte 1 argument", byte 2 the hand, byte 3 zero, "bytes 4 to 7 a mask"
+-- ---- an order is its 8 bytes: "byte 0 kind, byte 1 argument, bytes 2, 3 zero, bytes 4 to 7 a mask"
 abbrev pub kind : List ℕ → ℕ
 kind o = byte_at o 0
 
 abbrev pub argument : List ℕ → ℕ
 argument o = byte_at o 1
-
--- request W7: "Order byte 2 becomes the hand, 0 to 3, in every kind."
-abbrev pub hand : List ℕ → ℕ
-hand o = byte_at o 2
 
 abbrev pub mask : List ℕ → ℕ
 mask o = word_at o 4
@@ -30,15 +26,15 @@ by_kind k narrow mark back finish other =
     cond (eqb k 1) narrow (cond (eqb k 2) mark (cond (eqb k 3) back (cond (eqb k 4) finish other)))
 
 -- the places of an order that must be zero, bit i for byte i: "byte 2 or 3", "any of bytes 1 to 7", "any of bytes 2 to 7", and of a finish "only bytes
--- 1 to 3", but for the hand, h
+-- 1 to 3"
 --
 --     byte      0  1  2  3  4  5  6  7
---     narrow    .  .  h  0  .  .  .  .     8
---     mark      .  0  h  0  0  0  0  0     2 + 8 + 16 + .. + 128
---     back      .  .  h  0  0  0  0  0     8 + 16 + .. + 128
---     finish    .  0  h  0  .  .  .  .     2 + 8
+--     narrow    .  .  0  0  .  .  .  .     4 + 8
+--     mark      .  0  0  0  0  0  0  0     2 + 4 + .. + 128
+--     back      .  .  0  0  0  0  0  0     4 + 8 + .. + 128
+--     finish    .  0  0  0  .  .  .  .     2 + 4 + 8
 abbrev pub zero_places : ℕ → ℕ
-zero_places k = by_kind k 8 250 248 10 0
+zero_places k = by_kind k 12 254 252 14 0
 
 -- byte i is at one of these places, and isn't zero
 unfoldable pub wrong_place : ℕ → List ℕ → ℕ → Bool
@@ -46,10 +42,6 @@ wrong_place places o i = bit i places && not (eqb (byte_at o i) 0)
 
 unfoldable pub some_wrong : ℕ → List ℕ → Bool
 some_wrong places o = any_below 8 (wrong_place places o)
-
--- request W7: "Refusal 25 covers hands above 3 in place of a byte 2 that isn't zero."
-unfoldable pub wrong_bytes : List ℕ → Bool
-wrong_bytes o = some_wrong (zero_places (kind o)) o || ltb 3 (hand o)
 
 -- ---- the trail
 -- what stands: a narrow of a column to a mask, or a checkpoint (document 01: bar)
@@ -101,18 +93,17 @@ back_causes d o = (refuse 24 if eqb (argument o) 0 || ltb d (argument o)) ∷ []
 abbrev pub finish_causes : List ℕ → List Cause
 finish_causes o = (refuse 27 if ltb 65535 (try_limit o)) ∷ []
 
--- none of the four
-abbrev pub is_other : ℕ → Bool
-is_other k = by_kind k false false false false true
+-- "Other kinds are refused with 20, before the rest": of their bytes none is looked at
+abbrev pub otherCauses : List Cause
+otherCauses = (refuse 20 if true) ∷ []
 
--- "An order's refusal goes by its bytes, the book and this list only": the number, or 0 where the order is accepted. "Other kinds are refused with 20,
--- before the rest"; each of the four is first "Refused with 25 if" a byte that must be zero "isn't zero", or the hand is above 3
+-- "An order's refusal goes by its bytes, the book and this list only": the number, or 0 where the order is accepted. Each of the four kinds is first
+-- "Refused with 25 if" a byte that must be zero "isn't zero"
 unfoldable pub refusal : Book → List Entry → List ℕ → ℕ
 refusal b L o =
     first_cause
-    ((refuse 20 if is_other (kind o))
-    ∷ (refuse 25 if wrong_bytes o)
-    ∷ by_kind (kind o) (narrow_causes b o) (mark_causes (depth L)) (back_causes (depth L) o) (finish_causes o) [])
+    ((refuse 25 if some_wrong (zero_places (kind o)) o)
+    ∷ by_kind (kind o) (narrow_causes b o) (mark_causes (depth L)) (back_causes (depth L) o) (finish_causes o) otherCauses)
 
 -- the order is accepted
 abbrev pub is_accepted : Book → List Entry → List ℕ → Bool

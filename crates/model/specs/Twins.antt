@@ -1,7 +1,7 @@
 -- Twins: two books whose sheets allow the same. What a buyer sees of them is the same, whatever their rows are.
 use Rattle.std.specs.Prelude.{◌≡◌, List, ℕ, ◌<◌, length, get_or}
 use Rattle.model.specs.Books.{Sheet, Book, sheet_at, allows, WellFormed}
-use Rattle.model.specs.Answers.{answers, accepted_by}
+use Rattle.model.specs.Answers.{answers, accepted_count}
 
 -- a combination of these columns: a value for each, and "The values are 0 to V − 1"
 pub record Combination (counts columns x : List ℕ) : Type 0 where
@@ -19,10 +19,10 @@ pub record Twins (b c : Book) : Type 0 where
   pub as_many : length b.sheets ≡ length c.sheets
   pub sheets : (s : ℕ) → s < length b.sheets → TwinSheets b.counts (sheet_at b s) (sheet_at c s)
 
--- "What a buyer sees": all answers of every list, and how many orders of each hand are accepted
+-- "What a buyer sees": all answers of every list, and the number of accepted orders
 pub record SameAnswers (b c : Book) : Type 0 where
   pub every : (os : List (List ℕ)) → answers b os ≡ answers c os
-  pub accepted : (os : List (List ℕ)) (h : ℕ) → accepted_by b os h ≡ accepted_by c os h
+  pub accepted : (os : List (List ℕ)) → accepted_count b os ≡ accepted_count c os
 
 -- the claim, which `twins_answer` of proofs/Twins.antt proves
 abbrev pub TwinsAnswer : Type 0

@@ -30,11 +30,10 @@ use Rattle.sessions.specs.Holds.{Holds}
 use Rattle.sessions.specs.Lists.{orders_of}
 use Rattle.sessions.specs.declared.session.Session.{Session}
 use Rattle.sessions.proofs.Lists.{orders_append}
-use Rattle.answers.specs.declared.hand.Counts.{Counts}
 use Rattle.promises.specs.Comparisons.{BothRan, Demand3, ListRan, current}
 use Rattle.promises.specs.Promises.{AcceptedNext, EndsWith, EqualEnds, NarrowerEnd, NextFinish, RunsCompare, set_in, standing_after}
 use Rattle.runs.specs.Results.{RightInput, space_needed, wrong_list}
-use Rattle.runs.specs.Runs.{RanThrough}
+use Rattle.runs.specs.Runs.{RanTo}
 use Rattle.promises.proofs.Promises.{formed}
 use Rattle.runs.proofs.Results.{right_input, right_zero, space_accepted, whole_list}
 use Rattle.runs.proofs.Runs.{last_part}
@@ -46,7 +45,7 @@ module _ (b : List ℕ) where
 
   ends_last : {o a : List ℕ} → EndsWith b o a → a ≡ answer_bytes (last_answer bk (orders_of o))
   ends_last {o} {a} e =
-      e.last ∙ ap (λ (S : List ℕ). answer_at S (length o / 8)) (space_accepted b o e.space e.accepted) ∙ last_part bk o _
+      e.last ∙ ap (λ (S : List ℕ). answer_at S (length o / 8)) (space_accepted b o e.space e.accepted) ∙ last_part bk o e.space
 
   -- every right list has a last answer, so the claims speak of something
   pub ends_some : (o : List ℕ) → Accepted b → wrong_list o ≡ false → (a : List ℕ) × EndsWith b o a
@@ -220,8 +219,8 @@ module _ (b x y : List ℕ) {s t : Session} (p : Holds b (standing_after b x) s)
         );
   }
 
--- what the run leaves of a whole list
-pub list_ran : {b o old : List ℕ} {s : Session} {c : Counts} {space : List ℕ} → RightInput b o (length old) → RanThrough b o old s c space → ListRan b o old s space
+-- what the run's loop leaves, of a whole list
+pub list_ran : {b o old : List ℕ} {s : Session} {k : ℕ} {space : List ℕ} → RightInput b o (length old) → RanTo b o old (length o / 8) s k space → ListRan b o old s space
 list_ran {b} {o} {old} r h =
     record { led = h.led; holds = h.holds; wrote = h.wrote ∙ sym (space_accepted b o old (right_zero b o (length old) r)) }
 

@@ -2,4 +2,3 @@
 pub mod Promises
 pub mod Comparisons
 pub mod Twins
-pub mod Hands

@@ -1,31 +1,31 @@
 -- The claims of specs/Promises.antt about one run, proved. Assumes nothing.
 use mathlib.Core.Path.{◌∙◌, ◌≡◌, ap, refl, subst, sym}
-use mathlib.Core.Bool.{◌&&◌, false, true}
+use mathlib.Core.Bool.{false, true}
 use mathlib.Core.Logic.{◌↔◌, ◌⊎◌, inl, inr}
 use mathlib.Core.Option.{none, some}
-use mathlib.Core.List.{List, [], ◌++◌, ◌∷◌}
-use Prim.Native.Nat.{◌+◌, ◌-◌, ◌/◌, ◌<◌, ◌^◌, ◌≤◌, suc, zero, ℕ}
+use mathlib.Core.List.{List, []}
+use Prim.Native.Nat.{◌*◌, ◌+◌, ◌-◌, ◌/◌, ◌<◌, ◌^◌, ◌≤◌, suc, zero, ℕ}
 use native.Mathlib.Numerals.{add-one}
 use native.Mathlib.Omega.{arith}
 use lib.Dec.{eqb}
-use lib.ListN.{get_or, length}
+use lib.ListN.{drop, get_or, length}
+use lib.Seq.{get_or-append-add, get_or-drop}
 use borrow.Author.Tests.{eqb-false, eqb-true}
 use Rattle.fields.specs.Bytes.{byte_at}
-use Rattle.model.specs.Answers.{Answer, accepted_by, accepted_count, accepted_from, answer, answer_at, answer_bytes, answers, count_in, opening, showing, state_only}
+use Rattle.model.specs.Answers.{Answer, accepted_count, accepted_from, all_bytes, answer, answer_at, answer_bytes, answers, opening, showing, state_only}
 use Rattle.model.specs.Books.{Book, WellFormed, column_count}
 use Rattle.model.specs.Demands.{ShowsFinish, ShowsFirst, ShowsState}
 use Rattle.model.specs.Masks.{bit}
-use Rattle.model.specs.Orders.{AcceptedFinish, Entry, domains, hand, is_accepted, kind, push, refusal, trail, trail_from, try_limit}
+use Rattle.model.specs.Orders.{AcceptedFinish, Entry, domains, is_accepted, kind, push, refusal, trail, trail_from, try_limit}
 use Rattle.model.specs.Search.{searched}
 use Rattle.model.specs.Stores.{has}
 use Rattle.model.specs.Tests.{count, one_if, sum, tab}
 use Rattle.model.proofs.Choices.{opt}
 use Rattle.model.proofs.Answers.{Tells, answer_tells, bytes_0, bytes_1, bytes_2, bytes_3, bytes_4, bytes_5, bytes_6_7, domain_back, map_out, showing_tells, shown_small, tries_small}
 use Rattle.model.proofs.Demands.{claim1, claim2, done_exactly}
-use Rattle.model.proofs.Hands.{counts_once}
 use Rattle.model.proofs.Refusals.{push_finish, push_refused}
 use Rattle.model.proofs.Search.{get_d_map}
-use Rattle.model.proofs.Tests.{either, length-tab, sum_add, sum_last, sum_same, tab_zeros}
+use Rattle.model.proofs.Tests.{either, sum_last, sum_same, tab_zeros}
 use Rattle.model.proofs.Trails.{accepted_snoc, domains_store, trail_snoc}
 use Rattle.book.specs.Decoding.{book_of}
 use Rattle.book.proofs.Decoding.{accepted_right, right_formed}
@@ -33,9 +33,10 @@ use Rattle.sessions.specs.Lists.{order_at, orders_of, orders_to}
 use Rattle.sessions.proofs.Lists.{orders_more, tab_last}
 use Rattle.promises.specs.Promises.{AcceptedRun, AcceptedRuns, AnswerShowsFinish, AnswerShowsFirst, AnswerShowsState, AnswerTells, AnyRun, AnyRuns, IsFinish, standing}
 use Rattle.runs.specs.Results.{run_refusal, run_result, run_space, space_needed}
-use Rattle.runs.proofs.Results.{accepted_number, result_accepted, result_small, right_input, right_list, space_accepted, space_refused, zero_or}
-use Rattle.runs.proofs.Runs.{accepted_few, answers_at, length_answers}
-use Rattle.answers.proofs.Spaces.{answer_part, count-back, ended_later, length-ended}
+use Rattle.answers.specs.Spaces.{written}
+use Rattle.runs.proofs.Results.{accepted_number, result_accepted, result_small, right_input, space_accepted, space_refused, zero_or}
+use Rattle.runs.proofs.Runs.{answers_at, length_answers}
+use Rattle.answers.proofs.Spaces.{answer_part, length_all, length-written}
 
 -- ---- one answer of the model, read back from its bytes
 module _ (B : Book) (p : WellFormed B) (L : List Entry) (a : Answer) where
@@ -104,18 +105,6 @@ module _ (B : Book) (p : WellFormed B) (L : List Entry) (a : Answer) where
 pub formed : (b o : List ℕ) (room : ℕ) → run_refusal b o room ≡ 0 → WellFormed (book_of b)
 formed b o room e = right_formed b (accepted_right b (right_input b o room e).book)
 
--- one order more: it counts for its hand, and so once in all
-accepted_last : (B : Book) (os : List (List ℕ)) (o : List ℕ) → accepted_count B (os ++ (o ∷ [])) ≡ accepted_count B os + one_if (is_accepted B (trail B os) o)
-accepted_last B os o =
-    sum_same 4 (accepted_by B (os ++ (o ∷ []))) (λ h. accepted_by B os h + one_if (is_accepted B (trail B os) o && eqb (hand o) h))
-    (λ h l. accepted_snoc B h [] os o)
-    ∙ sum_add 4 (accepted_by B os) (λ h. one_if (is_accepted B (trail B os) o && eqb (hand o) h))
-    ∙ ap (λ (k : ℕ). accepted_count B os + k) (counts_once B (trail B os) o)
-
--- the trail after one order more
-pub stands_more : (b o : List ℕ) (i : ℕ) → standing b o (i + 1) ≡ push (book_of b) (standing b o i) (order_at o i)
-stands_more b o i = ap (trail (book_of b)) (orders_more o i) ∙ trail_snoc (book_of b) [] (orders_to o i) (order_at o i)
-
 module _ (b o space : List ℕ) where
   -- ---- demand 1, of any run
   any-run : AnyRun b o space
@@ -132,14 +121,19 @@ module _ (b o space : List ℕ) where
       rest : (j : ℕ) → space_needed o ≤ j → (run_refusal b o (length space) ≡ 0) ⊎ (run_refusal b o (length space) ≡ 0 → ⊥) → byte_at (run_space b o space) j ≡ byte_at space j
       rest j l (inr n) = ap (λ (s : List ℕ). byte_at s j) (space_refused b o space n)
       rest j l (inl e) =
+          let k : j ≡ length (all_bytes (answers (book_of b) (orders_of o))) + (j - space_needed o) = omega (arith, length_all (answers (book_of b) (orders_of o)), as_long) in
+          let m : 72 * length (answers (book_of b) (orders_of o)) + (j - space_needed o) ≡ j = omega (arith, as_long) in
           ap (λ (s : List ℕ). byte_at s j) (space_accepted b o space e)
-          ∙ ended_later (answers (book_of b) (orders_of o)) (accepted_by (book_of b) (orders_of o)) space j (omega (arith, as_long))
+          ∙ ap (byte_at (written (answers (book_of b) (orders_of o)) space)) k
+          ∙ get_or-append-add (all_bytes (answers (book_of b) (orders_of o))) (drop (72 * length (answers (book_of b) (orders_of o))) space) (j - space_needed o) 0
+          ∙ get_or-drop (72 * length (answers (book_of b) (orders_of o))) space (j - space_needed o) 0
+          ∙ ap (byte_at space) m
 
       long : (run_refusal b o (length space) ≡ 0) ⊎ (run_refusal b o (length space) ≡ 0 → ⊥) → length (run_space b o space) ≡ length space
       long (inr n) = ap length (space_refused b o space n)
       long (inl e) =
           ap length (space_accepted b o space e)
-          ∙ length-ended (answers (book_of b) (orders_of o)) (accepted_by (book_of b) (orders_of o)) space (omega (arith, as_long, (right_input b o (length space) e).enough))
+          ∙ length-written (answers (book_of b) (orders_of o)) space (omega (arith, as_long, (right_input b o (length space) e).enough))
 
   -- ---- an accepted run
   module _ (e : run_refusal b o (length space) ≡ 0) where
@@ -158,6 +152,10 @@ module _ (b o space : List ℕ) where
     well : WellFormed bk
     well = formed b o (length space) e
 
+    -- the trail after one order more
+    stands_more : (i : ℕ) → T (i + 1) ≡ push bk (T i) (order_at o i)
+    stands_more i = ap (trail bk) (orders_more o i) ∙ trail_snoc bk [] (orders_to o i) (order_at o i)
+
     no-orders : T 0 ≡ []
     unfolding tab trail_from
     no-orders = refl
@@ -166,7 +164,7 @@ module _ (b o space : List ℕ) where
     at : (i : ℕ) {a : Answer} → i ≤ n → get_or (answers bk (orders_of o)) i (opening bk) ≡ a → answer_at S i ≡ answer_bytes a
     at i l q =
         ap (λ (s : List ℕ). answer_at s i) (space_accepted b o space e)
-        ∙ answer_part (answers bk (orders_of o)) _ i (opening bk) (omega (arith, length_answers bk o n))
+        ∙ answer_part (answers bk (orders_of o)) space i (opening bk) (omega (arith, length_answers bk o n))
         ∙ ap answer_bytes q
 
     ordered : (i : ℕ) → i < n → answer_at S (i + 1) ≡ answer_bytes (answer bk (T i) (order_at o i))
@@ -187,53 +185,21 @@ module _ (b o space : List ℕ) where
     unfolding showing
     unrefused = ap (λ (a : List ℕ). byte_at a 0) opened ∙ bytes_0 (opening bk)
 
-    -- ---- the counts
-    count-to : (h m : ℕ) → accepted_by bk (orders_to o m) h ≡ count m (λ i. is_accepted bk (T i) (order_at o i) && eqb (hand (order_at o i)) h)
+    -- ---- the count
+    count-to : (m : ℕ) → accepted_count bk (orders_to o m) ≡ count m (λ i. is_accepted bk (T i) (order_at o i))
     unfolding count sum tab accepted_from
-    count-to h zero = refl
-    count-to h (suc m) =
-        ap (λ (os : List (List ℕ)). accepted_by bk os h) (tab_last m (order_at o))
-        ∙ accepted_snoc bk h [] (orders_to o m) (order_at o m)
-        ∙ ap (λ (k : ℕ). k + one_if (is_accepted bk (T m) (order_at o m) && eqb (hand (order_at o m)) h)) (count-to h m)
-        ∙ sym (sum_last m (λ i. one_if (is_accepted bk (T i) (order_at o i) && eqb (hand (order_at o i)) h)))
-
-    -- a count of 16 bits is enough
-    count_small : (h : ℕ) → accepted_by bk (orders_of o) h < 65536
-    count_small h =
-        omega (arith, accepted_few bk h [] (orders_of o), length-tab n (order_at o), right_list o (right_input b o (length space) e).list)
-
-    written_count : (h : ℕ) → h < 4 → count_in S n h ≡ accepted_by bk (orders_of o) h
-    written_count h l =
-        ap (λ (s : List ℕ). count_in s n h) (space_accepted b o space e)
-        ∙ count-back (answers bk (orders_of o)) (accepted_by bk (orders_of o)) space n h (length_answers bk o n) l (count_small h)
-
-    by_hand : (h : ℕ) → h < 4 → count_in S n h ≡ count n (λ i. eqb (byte_at (answer_at S (i + 1)) 0) 0 && eqb (hand (order_at o i)) h)
-    unfolding count
-    by_hand h l =
-        written_count h l
-        ∙ count-to h n
-        ∙ sum_same n (λ i. one_if (is_accepted bk (T i) (order_at o i) && eqb (hand (order_at o i)) h))
-        (λ i. one_if (eqb (byte_at (answer_at S (i + 1)) 0) 0 && eqb (hand (order_at o i)) h))
-        (λ i k. ap (λ (r : ℕ). one_if (eqb r 0 && eqb (hand (order_at o i)) h)) (sym (refusals i k)))
-
-    summed : run_result b o (length space) ≡ sum 4 (count_in S n)
-    summed = result_accepted b o (length space) e ∙ sum_same 4 (accepted_by bk (orders_of o)) (count_in S n) (λ h l. sym (written_count h l))
-
-    -- all hands together: each accepted order counts once
-    total-to : (m : ℕ) → accepted_count bk (orders_to o m) ≡ count m (λ i. is_accepted bk (T i) (order_at o i))
-    unfolding count sum tab accepted_from
-    total-to zero = refl
-    total-to (suc m) =
+    count-to zero = refl
+    count-to (suc m) =
         ap (accepted_count bk) (tab_last m (order_at o))
-        ∙ accepted_last bk (orders_to o m) (order_at o m)
-        ∙ ap (λ (k : ℕ). k + one_if (is_accepted bk (T m) (order_at o m))) (total-to m)
+        ∙ accepted_snoc bk [] (orders_to o m) (order_at o m)
+        ∙ ap (λ (k : ℕ). k + one_if (is_accepted bk (T m) (order_at o m))) (count-to m)
         ∙ sym (sum_last m (λ i. one_if (is_accepted bk (T i) (order_at o i))))
 
     counted : run_result b o (length space) ≡ count n (λ i. eqb (byte_at (answer_at S (i + 1)) 0) 0)
     unfolding count
     counted =
         result_accepted b o (length space) e
-        ∙ total-to n
+        ∙ count-to n
         ∙ sum_same n (λ i. one_if (is_accepted bk (T i) (order_at o i))) (λ i. one_if (eqb (byte_at (answer_at S (i + 1)) 0) 0))
         (λ i l. ap (λ (r : ℕ). one_if (eqb r 0)) (sym (refusals i l)))
 
@@ -242,7 +208,7 @@ module _ (b o space : List ℕ) where
     tells =
         each (λ i. AnswerTells bk (T i) (answer_at S i)) (rw (no-orders, opened) (reads bk well [] (opening bk) (showing_tells bk [] 0 state_only)))
         (λ i l.
-        rw (stands_more b o i, ordered i l) (reads bk well (push bk (T i) (order_at o i)) (answer bk (T i) (order_at o i)) (answer_tells bk (T i) (order_at o i))))
+        rw (stands_more i, ordered i l) (reads bk well (push bk (T i) (order_at o i)) (answer bk (T i) (order_at o i)) (answer_tells bk (T i) (order_at o i))))
 
     -- order i + 1 is no accepted finish
     no_finish : (i : ℕ) → i < n → (IsFinish o S (i + 1) → ⊥) → AcceptedFinish bk (T i) (order_at o i) → ⊥
@@ -255,7 +221,7 @@ module _ (b o space : List ℕ) where
         each (λ i. (IsFinish o S i → ⊥) → AnswerShowsState bk (T i) (answer_at S i))
         (λ f. rw (no-orders, opened) (reads-state bk well [] (opening bk) (domains_store bk []).bits (omega arith) (claim2 bk well).1.opened))
         (λ i l f.
-        rw (stands_more b o i, ordered i l)
+        rw (stands_more i, ordered i l)
         (reads-state bk well (push bk (T i) (order_at o i)) (answer bk (T i) (order_at o i)) (shown_small bk well (T i) (order_at o i))
         (tries_small bk (T i) (order_at o i)) ((claim2 bk well).1.ordered (T i) (order_at o i) (no_finish i l f))))
 
@@ -265,18 +231,16 @@ module _ (b o space : List ℕ) where
         (λ i l f.
         let q : i + 1 - 1 ≡ i = omega arith in
         let k : kind (order_at o i) ≡ 4 = rw q at f.of_kind in
-        rw (q, stands_more b o i, push_finish bk (T i) (order_at o i) k, ordered i l)
+        rw (q, stands_more i, push_finish bk (T i) (order_at o i) k, ordered i l)
         (reads-finish bk well (T i) (answer bk (T i) (order_at o i)) (shown_small bk well (T i) (order_at o i)) (tries_small bk (T i) (order_at o i))
         ((claim2 bk well).1.finished (T i) (order_at o i) (record { of_kind = k; accepted = sym (refusals i l) ∙ f.accepted }))))
 
     accepted_run : AcceptedRun bk T o S n (run_result b o (length space))
     accepted_run = record {
       counted = counted;
-      by_hand = by_hand;
-      summed = summed;
       refusals = refusals;
       opened = unrefused;
-      refused_order = λ i l q. stands_more b o i ∙ push_refused bk (T i) (order_at o i) (λ z. q (refusals i l ∙ z));
+      refused_order = λ i l q. stands_more i ∙ push_refused bk (T i) (order_at o i) (λ z. q (refusals i l ∙ z));
       tells = tells;
       states = states;
       finishes = finishes;

@@ -1,19 +1,19 @@
 -- The claims of specs/Twins.antt, proved. Assumes nothing.
-use mathlib.Core.Path.{◌∙◌, ◌≡◌, ap, ap₂, refl, sym}
+use mathlib.Core.Path.{◌∙◌, ◌≡◌, ap, ap₂, sym}
 use mathlib.Core.Bool.{cond}
-use mathlib.Core.List.{List, ◌++◌}
+use mathlib.Core.List.{List}
 use Prim.Native.Nat.{◌*◌, ◌+◌, ℕ}
 use lib.Dec.{eqb, leb, ltb}
-use lib.ListN.{drop, length}
-use Rattle.model.specs.Answers.{Answer, accepted_by, all_bytes, answers, count_bytes}
+use lib.ListN.{length}
+use Rattle.model.specs.Answers.{Answer}
 use Rattle.model.specs.Twins.{Twins}
-use Rattle.model.proofs.Tests.{sum_same}
 use Rattle.model.proofs.Twins.{twins_answer}
 use Rattle.model.proofs.WrittenOut.{written_out_twins}
 use Rattle.book.specs.Decoding.{book_of}
 use Rattle.book.specs.Verdicts.{Accepted, check_result, refused}
 use Rattle.book.proofs.Decoding.{accepted_well_formed}
 use Rattle.sessions.specs.Lists.{orders_of}
+use Rattle.answers.specs.Spaces.{written}
 use Rattle.runs.specs.Results.{run_refusal, run_result, run_space, space_needed, wrong_list}
 use Rattle.promises.specs.Twins.{TwinsRunAlike, WrittenOutRuns}
 
@@ -33,31 +33,17 @@ module _ (b c : List ℕ) (p : Accepted b) (q : Accepted c) (h : Twins (book_of 
       cond (leb 65536 r) r (cond (wrong_list o) (refused 10 0) (cond (ltb room (space_needed o)) (refused 11 (space_needed o)) 0)))
       same-figure
 
-  same_counts : (o : List ℕ) → count_bytes (accepted_by (book_of b) (orders_of o)) ≡ count_bytes (accepted_by (book_of c) (orders_of o))
-  unfolding count_bytes
-  same_counts o =
-      let e = (twins_answer (book_of b) (book_of c) (accepted_well_formed b p).well_formed h).accepted (orders_of o) in
-      rw (e 0, e 1, e 2, e 3) refl
-
   same-space : (o space : List ℕ) → run_space b o space ≡ run_space c o space
   unfolding run_space
   same-space o space =
-      ap₂
-      (λ (r : ℕ) (l : List Answer).
-      cond (eqb r 0) (all_bytes l ++ (count_bytes (accepted_by (book_of b) (orders_of o)) ++ drop (72 * length l + 8) space)) space)
-      (same_refusal o (length space)) ((twins_answer (book_of b) (book_of c) (accepted_well_formed b p).well_formed h).every (orders_of o))
-      ∙ ap
-      (λ (k : List ℕ).
-      cond (eqb (run_refusal c o (length space)) 0)
-      (all_bytes (answers (book_of c) (orders_of o)) ++ (k ++ drop (72 * length (answers (book_of c) (orders_of o)) + 8) space)) space)
-      (same_counts o)
+      ap₂ (λ (r : ℕ) (l : List Answer). cond (eqb r 0) (written l space) space) (same_refusal o (length space))
+      ((twins_answer (book_of b) (book_of c) (accepted_well_formed b p).well_formed h).every (orders_of o))
 
   same_number : (o : List ℕ) (room : ℕ) → run_result b o room ≡ run_result c o room
   unfolding run_result
   same_number o room =
       ap₂ (λ (r n : ℕ). cond (eqb r 0) n r) (same_refusal o room)
-      (sum_same 4 (accepted_by (book_of b) (orders_of o)) (accepted_by (book_of c) (orders_of o))
-      (λ g l. (twins_answer (book_of b) (book_of c) (accepted_well_formed b p).well_formed h).accepted (orders_of o) g))
+      ((twins_answer (book_of b) (book_of c) (accepted_well_formed b p).well_formed h).accepted (orders_of o))
 
 pub twins_run_alike : TwinsRunAlike
 twins_run_alike b c p q h = record { figure = same-figure b c p q h; spaces = same-space b c p q h; numbers = same_number b c p q h }

@@ -1,18 +1,18 @@
 -- What the two equations of a run come to, in the customer's words. b, o and space are the book, the orders and the answer space handed
 -- over; n is the number of orders. Quoted are the customer's demands and document 01. Proved in proofs/Promises.antt, what two runs have in common in
 -- proofs/Comparisons.antt.
-use Rattle.std.specs.Prelude.{◌≡◌, ◌&&◌, true, ◌↔◌, ◌⊎◌, List, ◌++◌, ◌+◌, ◌-◌, ◌/◌, ◌<◌, ◌^◌, ◌≤◌, ℕ, eqb, get_or, length}
+use Rattle.std.specs.Prelude.{◌≡◌, true, ◌↔◌, ◌⊎◌, List, ◌++◌, ◌+◌, ◌-◌, ◌/◌, ◌<◌, ◌^◌, ◌≤◌, ℕ, eqb, get_or, length}
 use Rattle.fields.specs.Bytes.{byte_at, half_at}
-use Rattle.model.specs.Answers.{answer_at, count_in, done_of, domain_in, status_of}
+use Rattle.model.specs.Answers.{answer_at, done_of, domain_in, status_of}
 use Rattle.model.specs.Books.{Book, Fails, Stays, column_count}
 use Rattle.model.specs.Choices.{Lower}
 use Rattle.model.specs.Demands.{DoneExactly, SameAllowed, SameFinish}
 use Rattle.model.specs.Masks.{bit}
-use Rattle.model.specs.Orders.{Entry, allowed, depth, domains, hand, kind, refusal, trail, try_limit}
+use Rattle.model.specs.Orders.{Entry, allowed, depth, domains, kind, refusal, trail, try_limit}
 use Rattle.model.specs.Search.{searched, value_of}
 use Rattle.model.specs.Solutions.{FirstSolution, NoSolution, Solution}
 use Rattle.model.specs.Stores.{Within}
-use Rattle.model.specs.Tests.{count, sum, tab}
+use Rattle.model.specs.Tests.{count, tab}
 use Rattle.book.specs.Decoding.{book_of}
 use Rattle.sessions.specs.Lists.{order_at, orders_to}
 use Rattle.runs.specs.Results.{run_refusal, run_result, run_space, space_needed}
@@ -21,7 +21,7 @@ use Rattle.runs.specs.Results.{run_refusal, run_result, run_space, space_needed}
 pub record AnyRun (b o space : List ℕ) : Type 0 where
   -- "a refused run writes nothing"
   pub refused_run : 65536 ≤ run_result b o (length space) → run_space b o space ≡ space
-  -- "touches nothing outside the answers" and their counts: "Later bytes of the space are untouched"
+  -- "touches nothing outside the answers": "Later bytes of the space are untouched"
   pub untouched : (j : ℕ) → space_needed o ≤ j → byte_at (run_space b o space) j ≡ byte_at space j
   pub same_length : length (run_space b o space) ≡ length space
   -- a number below 65,536 says that the run was accepted, and no other does
@@ -86,10 +86,6 @@ pub record IsFinish (o S : List ℕ) (i : ℕ) : Type 0 where
 pub record AcceptedRun (B : Book) (L : ℕ → List Entry) (o S : List ℕ) (n accepted : ℕ) : Type 0 where
   -- demand 1: "the accepted count is the number of orders answered with 0", answer 0 being that of no order
   pub counted : accepted ≡ count n (λ i. eqb (byte_at (answer_at S (i + 1)) 0) 0)
-  -- request W7: "a count for each hand": of the orders answered with 0, those that the hand gave
-  pub by_hand : (h : ℕ) → h < 4 → count_in S n h ≡ count n (λ i. eqb (byte_at (answer_at S (i + 1)) 0) 0 && eqb (hand (order_at o i)) h)
-  -- "The call still returns their sum."
-  pub summed : accepted ≡ sum 4 (count_in S n)
   -- "byte 0 the refusal or 0": by the order's bytes, the book and what stands
   pub refusals : (i : ℕ) → i < n → byte_at (answer_at S (i + 1)) 0 ≡ refusal B (L i) (order_at o i)
   pub opened : byte_at (answer_at S 0) 0 ≡ 0

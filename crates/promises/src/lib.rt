@@ -3,8 +3,7 @@
 // Promise: `AnyRuns`, `AcceptedRuns` and `RunsCompare` (specs/Promises.antt) are the demands of the bytes that runs leave, proved as `any_runs`,
 // `accepted_runs` and `runs_compare`. `run_both` ensures demand 3 of any two lists, whole (`BothRan`, specs/Comparisons.antt): its sentences on "the
 // session given back" no answer shows. The sessions are those of the loop that `fitting_run` runs. `TwinsRunAlike` and `WrittenOutRuns`
-// (specs/Twins.antt) are what runs over two books that allow the same leave, proved as `twins_run_alike` and `written_out_runs`; `HandsRunAlike`
-// (specs/Hands.antt) is what runs of two lists leave that are equal but for who clicked, proved as `hands_run_alike`.
+// (specs/Twins.antt) are what runs over two books that allow the same leave, proved as `twins_run_alike` and `written_out_runs`.
 ghost use Rattle.std.specs.Prelude.{length};
 ghost use Rattle.runs.specs.Results.{RightInput};
 ghost use Rattle.promises.specs.Comparisons.{BothRan};
@@ -24,8 +23,8 @@ pub fn run_both(book: &[u8], xs: &[u8], ys: &[u8], a: &mut [u8], d: &mut [u8]) -
     requires { RightInput book.now xs.now (length a.old) × RightInput book.now ys.now (length d.old) }
     ensures { BothRan book.now xs.now ys.now a.old d.old result.left result.right a.new d.new }
 {
-    let p = run_list(book, xs, a);
-    let q = run_list(book, ys, d);
+    let p = run_orders(book, xs, a);
+    let q = run_orders(book, ys, d);
     let left = p.session;
     let right = q.session;
     Pair {

@@ -8,14 +8,14 @@ use native.Mathlib.Omega.{arith}
 use lib.Dec.{eqb, leb, ltb}
 use lib.ListN.{length}
 use borrow.Author.Tests.{eqb-false, eqb-true, le-leb, le-ltb, leb-false, leb-true, lt-leb, lt-ltb, ltb-false, ne_eqb, not-false}
-use Rattle.model.specs.Answers.{accepted_by, accepted_count, answers}
+use Rattle.model.specs.Answers.{accepted_count, answers}
 use Rattle.model.proofs.Tests.{either, length-tab, or_false_l, or_false_r}
 use Rattle.book.specs.Decoding.{book_of}
 use Rattle.book.specs.Verdicts.{check_result}
 use Rattle.sessions.specs.Lists.{order_at, orders_of}
 use Rattle.runs.specs.Results.{RightInput, run_refusal, run_result, run_space, space_needed, wrong_list}
-use Rattle.answers.specs.Spaces.{ended}
-use Rattle.runs.proofs.Runs.{total_few}
+use Rattle.answers.specs.Spaces.{written}
+use Rattle.runs.proofs.Runs.{accepted_few}
 
 pub whole_list : (o : List ℕ) → wrong_list o ≡ false → length o % 8 ≡ 0
 unfolding wrong_list
@@ -67,7 +67,7 @@ module _ (b o : List ℕ) (room : ℕ) where
       omega (
         arith,
         result_accepted e,
-        total_few (book_of b) [] (orders_of o),
+        accepted_few (book_of b) [] (orders_of o),
         length-tab (length o / 8) (order_at o),
         right_list o (right_input e).list,
       )
@@ -88,7 +88,7 @@ module _ (b o : List ℕ) (room : ℕ) where
       go (inr n) = absurd (omega (arith, result_refused n, refusal-large n))
 
 module _ (b o space : List ℕ) where
-  pub space_accepted : run_refusal b o (length space) ≡ 0 → run_space b o space ≡ ended (answers (book_of b) (orders_of o)) (accepted_by (book_of b) (orders_of o)) space
+  pub space_accepted : run_refusal b o (length space) ≡ 0 → run_space b o space ≡ written (answers (book_of b) (orders_of o)) space
   unfolding run_space
   space_accepted e = rw e
 

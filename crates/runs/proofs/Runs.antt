@@ -1,6 +1,6 @@
 -- Laws of a list on its way. Assumes nothing.
-use mathlib.Core.Path.{◌∙◌, ◌≡◌, ap, ap₂, refl, subst, sym}
-use mathlib.Core.Bool.{Bool, ◌&&◌, cond, false, true}
+use mathlib.Core.Path.{◌∙◌, ◌≡◌, ap, refl, subst, sym}
+use mathlib.Core.Bool.{Bool, cond, false, true}
 use mathlib.Core.Logic.{◌⊎◌, inl, inr}
 use mathlib.Core.List.{List, [], ◌++◌, ◌∷◌}
 use Prim.Native.Nat.{◌*◌, ◌+◌, ◌/◌, ◌<◌, ◌≤◌, suc, zero, ℕ}
@@ -8,13 +8,11 @@ use native.Mathlib.Omega.{arith}
 use lib.Dec.{eqb, leb}
 use lib.ListN.{get_or-append, get_or, length}
 use lib.Seq.{get_or_at}
-use borrow.Author.Tests.{le-leb, lt-leb}
-use Rattle.fields.specs.Bytes.{over}
-use Rattle.model.specs.Answers.{Answer, accepted_by, accepted_count, accepted_from, all_bytes, answer, answer_at, answer_bytes, answers, answers_from, count_bytes, last_answer, last_from, opening}
+use borrow.Author.Tests.{eq-eqb, le-leb, lt-leb, ne_eqb}
+use Rattle.model.specs.Answers.{Answer, accepted_count, accepted_from, all_bytes, answer, answer_at, answer_bytes, answers, answers_from, last_answer, last_from, opening}
 use Rattle.model.specs.Books.{Book}
-use Rattle.model.specs.Orders.{Entry, depth, hand, is_accepted, push, trail, trail_from}
-use Rattle.model.specs.Tests.{one_if, sum, tab}
-use Rattle.model.proofs.Hands.{accepted_all, accepted_none}
+use Rattle.model.specs.Orders.{Entry, depth, is_accepted, push, trail, trail_from}
+use Rattle.model.specs.Tests.{one_if, tab}
 use Rattle.model.proofs.Refusals.{refusal_small}
 use Rattle.model.proofs.Tests.{below, length-tab}
 use Rattle.model.proofs.Trails.{accepted_snoc, answers_snoc, trail_snoc}
@@ -26,12 +24,9 @@ use Rattle.sessions.proofs.Lists.{orders_more, tab_last}
 use Rattle.status.specs.Status.{SummaryIs}
 use Rattle.status.specs.declared.Summary.{Summary}
 use Rattle.shown.specs.Shows.{AnswersAt}
-use Rattle.runs.specs.Runs.{Led, RanThrough, RanTo}
-use Rattle.answers.specs.Hands.{CountsAre, CountsOne, RoomToCount, count_of, nothing}
+use Rattle.runs.specs.Runs.{Led, RanTo}
 use Rattle.answers.specs.Spaces.{Adds, written}
-use Rattle.answers.specs.declared.hand.Counts.{Counts}
-use Rattle.answers.proofs.Hands.{counts_bytes, counts_total}
-use Rattle.answers.proofs.Spaces.{answer_part, ended-over, length-written, written_over}
+use Rattle.answers.proofs.Spaces.{answer_part, length-written, written_over}
 
 -- ---- how many, and the last
 length_from : (b : Book) (L : List Entry) (os : List (List ℕ)) → length (answers_from b L os) ≡ length os
@@ -47,7 +42,7 @@ unfolding answers_from last_from
 last_at b [] L a d = refl
 last_at b (o ∷ os) L a d = last_at b os (push b L o) (answer b L o) d
 
-pub answers_more : (b : Book) (o : List ℕ) (n : ℕ)
+answers_more : (b : Book) (o : List ℕ) (n : ℕ)
     → answers b (orders_to o (n + 1)) ≡ answers b (orders_to o n) ++ (answer b (trail b (orders_to o n)) (order_at o n) ∷ [])
 answers_more b o n = ap (answers b) (orders_more o n) ∙ ap (λ (l : List Answer). opening b ∷ l) (answers_snoc b [] (orders_to o n) (order_at o n))
 
@@ -74,15 +69,10 @@ one_most : (t : Bool) → one_if t ≤ 1
 one_most true = omega arith
 one_most false = omega arith
 
--- no hand has more than there are orders, and all together have not
-pub accepted_few : (b : Book) (h : ℕ) (L : List Entry) (os : List (List ℕ)) → accepted_from b h L os ≤ length os
+pub accepted_few : (b : Book) (L : List Entry) (os : List (List ℕ)) → accepted_from b L os ≤ length os
 unfolding accepted_from
-accepted_few b h L [] = omega arith
-accepted_few b h L (o ∷ os) = omega (arith, one_most (is_accepted b L o && eqb (hand o) h), accepted_few b h (push b L o) os)
-
-pub total_few : (b : Book) (L : List Entry) (os : List (List ℕ)) → sum 4 (λ h. accepted_from b h L os) ≤ length os
-total_few b L [] = omega (arith, accepted_none b L)
-total_few b L (o ∷ os) = omega (arith, accepted_all b L o os, one_most (is_accepted b L o), total_few b (push b L o) os)
+accepted_few b L [] = omega arith
+accepted_few b L (o ∷ os) = omega (arith, one_most (is_accepted b L o), accepted_few b (push b L o) os)
 
 -- ---- what the writer asks for
 pub refuses_small : {b : List ℕ} (x : List ℕ) {L : List Entry} {s : Session} {r : ℕ} → Holds b L s → Refuses b s x r → r < 256
@@ -90,6 +80,13 @@ refuses_small {b} x {L} {s} {r} h f = rw (f L h) (refusal_small (book_of b) L x)
 
 pub depth_small : {b : List ℕ} {L : List Entry} {s : Session} → Holds b L s → s.depth ≤ 16
 depth_small h = omega (arith, h.few, h.deep)
+
+-- an accepted order counts, a refused one doesn't
+pub counts_one : (k : ℕ) {r : ℕ} → r ≡ 0 → k + 1 ≡ k + one_if (eqb r 0)
+counts_one k {r} z = ap (λ (t : Bool). k + one_if t) (sym (eq-eqb r 0 z))
+
+pub counts_none : (k : ℕ) {r : ℕ} → (r ≡ 0 → ⊥) → k ≡ k + one_if (eqb r 0)
+counts_none k {r} z = let e : eqb r 0 ≡ false = ne_eqb r 0 z in rw e (omega arith)
 
 -- ---- from the opening on
 module _ (b o old : List ℕ) where
@@ -124,23 +121,19 @@ module _ (b o old : List ℕ) where
       step i (inl k) l = rw (early i (omega arith), early (i + 1) (omega arith)) (p.steps i k)
       step i (inr k) l = let e : i ≡ n = omega arith in rw (e, early n (omega arith), late, p.last) g
 
-  pub ran_none : {s : Session} {c : Counts} {space : List ℕ} → 72 ≤ length old → Holds b [] s → CountsAre nothing c → Adds 0 (opening bk) old space → RanTo b o old 0 s c space
+  pub ran_none : {s : Session} {space : List ℕ} → 72 ≤ length old → Holds b [] s → Adds 0 (opening bk) old space → RanTo b o old 0 s 0 space
   unfolding tab trail_from accepted_from answers_from all_bytes
-  ran_none l h z w = record { led = led-none h; holds = h; counts = z; wrote = w [] old refl l refl }
+  ran_none l h w = record { led = led-none h; holds = h; counts = refl; wrote = w [] old refl l refl }
 
-  -- a list has 256 orders at most, so there is room for one more
-  counts_room : (os : List (List ℕ)) (c : Counts) → CountsAre (accepted_by bk os) c → length os ≤ 256 → RoomToCount c
-  counts_room os c h l = record { at = λ g k. omega (arith, h.at g k, accepted_few bk g [] os) }
+  pub ran_few : {n k : ℕ} {s : Session} {space : List ℕ} → RanTo b o old n s k space → k ≤ n
+  ran_few {n} {k} {s} {space} h = omega (arith, h.counts, accepted_few bk [] (orders_to o n), length-tab n (order_at o))
 
-  pub ran_few : {n : ℕ} {s : Session} {c : Counts} {space : List ℕ} → RanTo b o old n s c space → n ≤ 256 → RoomToCount c
-  ran_few {n} {s} {c} {space} h l = counts_room (orders_to o n) c h.counts (omega (arith, length-tab n (order_at o)))
-
-  pub ran_room : {n : ℕ} {s : Session} {c : Counts} {space : List ℕ} → RanTo b o old n s c space → 72 * n + 72 ≤ length old → length space ≡ length old
-  ran_room {n} {s} {c} {space} h l =
+  pub ran_room : {n k : ℕ} {s : Session} {space : List ℕ} → RanTo b o old n s k space → 72 * n + 72 ≤ length old → length space ≡ length old
+  ran_room {n} {k} {s} {space} h l =
       ap length h.wrote ∙ length-written (answers bk (orders_to o n)) old (omega (arith, length_answers bk o n))
 
   -- one order more
-  module _ {n : ℕ} {s : Session} {c : Counts} {space x : List ℕ} (e : x ≡ order_at o n) (room : 72 * (n + 1) + 72 ≤ length old) (h : RanTo b o old n s c space)
+  module _ {n k : ℕ} {s : Session} {space x : List ℕ} (e : x ≡ order_at o n) (room : 72 * (n + 1) + 72 ≤ length old) (h : RanTo b o old n s k space)
       {r : ℕ} (f : Refuses b s x r) where
     -- what the session says, before the order and after it
     module _ {t : Session} (g : Stepped b s x t) {told told' : Summary} (said : SummaryIs b (T n) told) {space' : List ℕ}
@@ -154,19 +147,16 @@ module _ (b o old : List ℕ) where
       pub says_more : SummaryIs b (T (n + 1)) told'
       says_more = rw (orders_more o n, trail_snoc bk [] (orders_to o n) (order_at o n), ← e) answered.0
 
-      pub more : {d : Counts} → CountsOne x r c d → RanTo b o old (n + 1) t d space'
-      more {d} counted = record {
+      pub more : {j : ℕ} → j ≡ k + one_if (eqb r 0) → RanTo b o old (n + 1) t j space'
+      more {j} c = record {
         led = led-more n t h.led (rw e at g);
         holds = rw (orders_more o n, trail_snoc bk [] (orders_to o n) (order_at o n), ← e) (g.holds _ h.holds);
         counts =
-            let g = counted _ h.counts in
-            record {
-              at = λ k l.
-                  g.at k l
-                  ∙ ap₂ (λ (i : ℕ) (p : List ℕ). accepted_by bk (orders_to o n) k + one_if (eqb i 0 && eqb (hand p) k)) (rw e at (f (T n) h.holds)) e
-                  ∙ sym (accepted_snoc bk k [] (orders_to o n) (order_at o n))
-                  ∙ ap (λ (os : List (List ℕ)). accepted_by bk os k) (sym (orders_more o n));
-            };
+            c
+            ∙ ap (λ (i : ℕ). k + one_if (eqb i 0)) (rw e at (f (T n) h.holds))
+            ∙ ap (λ (i : ℕ). i + one_if (is_accepted bk (T n) (order_at o n))) h.counts
+            ∙ sym (accepted_snoc bk [] (orders_to o n) (order_at o n))
+            ∙ ap (accepted_count bk) (sym (orders_more o n));
         wrote =
             subst (λ (l : List Answer). space' ≡ written l old) (sym (answers_more bk o n))
             ((rw e at answered.1) (answers bk (orders_to o n)) old (length_answers bk o n) room h.wrote);
@@ -174,48 +164,28 @@ module _ (b o old : List ℕ) where
 
   -- ---- whole lists
   -- the space after the opening stands for the one before it
-  pub opened_ran : {s : Session} {c : Counts} {space : List ℕ} → 72 ≤ length old → Holds b [] s → CountsAre nothing c → Adds 0 (opening bk) old space → RanTo b o space 0 s c space
+  pub opened_ran : {s : Session} {space : List ℕ} → 72 ≤ length old → Holds b [] s → Adds 0 (opening bk) old space → RanTo b o space 0 s 0 space
   unfolding tab trail_from accepted_from answers_from
-  opened_ran {s} {c} {space} l h z w =
-      let e = (ran_none l h z w).wrote in
-      record { led = led-none h; holds = h; counts = z; wrote = e ∙ sym (written_over (opening bk ∷ []) (opening bk ∷ []) old e (omega arith)) }
+  opened_ran {s} {space} l h w =
+      let e = (ran_none l h w).wrote in
+      record { led = led-none h; holds = h; counts = refl; wrote = e ∙ sym (written_over (opening bk ∷ []) (opening bk ∷ []) old e (omega arith)) }
 
-  pub opened_long : {s : Session} {c : Counts} {space : List ℕ} → 72 ≤ length old → Holds b [] s → CountsAre nothing c → Adds 0 (opening bk) old space → length space ≡ length old
-  opened_long {s} {c} {space} l h z w = ran_room (ran_none l h z w) (omega arith)
+  pub opened_long : {s : Session} {space : List ℕ} → 72 ≤ length old → Holds b [] s → Adds 0 (opening bk) old space → length space ≡ length old
+  opened_long {s} {space} l h w = ran_room (ran_none l h w) (omega arith)
 
-  pub ran_from : {s t : Session} {c d : Counts} {n : ℕ} {mid space : List ℕ} → 72 ≤ length old → Holds b [] s → CountsAre nothing c → Adds 0 (opening bk) old mid → RanTo b o mid n t d space → RanTo b o old n t d space
+  pub ran_from : {s t : Session} {n k : ℕ} {mid space : List ℕ} → 72 ≤ length old → Holds b [] s → Adds 0 (opening bk) old mid → RanTo b o mid n t k space → RanTo b o old n t k space
   unfolding tab trail_from accepted_from answers_from
-  ran_from {s} {t} {c} {d} {n} {mid} {space} l h z w g = record {
+  ran_from {s} {t} {n} {k} {mid} {space} l h w g = record {
     led = g.led;
     holds = g.holds;
     counts = g.counts;
-    wrote = g.wrote ∙ written_over (answers bk (orders_to o n)) (opening bk ∷ []) old (ran_none l h z w).wrote (omega (arith, length_answers bk o n));
+    wrote = g.wrote ∙ written_over (answers bk (orders_to o n)) (opening bk ∷ []) old (ran_none l h w).wrote (omega (arith, length_answers bk o n));
   }
-
-  -- the counts come behind the last answer
-  pub ran_through : {s : Session} {c : Counts} {mid space : List ℕ} {at : ℕ} → at ≡ 72 * (length o / 8 + 1) → RanTo b o old (length o / 8) s c mid
-      → space ≡ over mid at (count_bytes (count_of c)) → RanThrough b o old s c space
-  ran_through {s} {c} {mid} {space} {at} e h w = record {
-    led = h.led;
-    holds = h.holds;
-    counts = h.counts;
-    wrote =
-        w
-        ∙ ap (over mid at) (counts_bytes c h.counts)
-        ∙ ended-over (answers bk (orders_of o)) old (accepted_by bk (orders_of o)) (omega (arith, e, length_answers bk o (length o / 8))) h.wrote;
-  }
-
-  -- the sum of the counts
-  pub ran_total : {s : Session} {c : Counts} {space : List ℕ} → RanThrough b o old s c space → sum 4 (count_of c) ≡ accepted_count bk (orders_of o)
-  ran_total {s} {c} {space} h = counts_total c h.counts
-
-  pub through_few : {s : Session} {c : Counts} {space : List ℕ} → RanThrough b o old s c space → length o ≤ 2048 → RoomToCount c
-  through_few {s} {c} {space} h l = counts_room (orders_of o) c h.counts (omega (arith, length-tab (length o / 8) (order_at o)))
 
 -- the last answer that was written
-pub last_part : (b : Book) (o rest : List ℕ) → answer_at (all_bytes (answers b (orders_of o)) ++ rest) (length o / 8) ≡ answer_bytes (last_answer b (orders_of o))
-last_part b o rest =
-    answer_part (answers b (orders_of o)) rest (length o / 8) (opening b) (omega (arith, length_answers b o (length o / 8)))
+pub last_part : (b : Book) (o old : List ℕ) → answer_at (written (answers b (orders_of o)) old) (length o / 8) ≡ answer_bytes (last_answer b (orders_of o))
+last_part b o old =
+    answer_part (answers b (orders_of o)) old (length o / 8) (opening b) (omega (arith, length_answers b o (length o / 8)))
     ∙ ap answer_bytes
     (ap (λ (i : ℕ). get_or (answers b (orders_of o)) i (opening b)) (sym (length-tab (length o / 8) (order_at o)))
     ∙ last_at b (orders_of o) [] (opening b) (opening b))

@@ -1,22 +1,22 @@
 -- What a run of a list gives: its number, and the answer space when it is over. b and o are the bytes of the book and of the orders: `book_of b`
 -- (book, Decoding) is the book that they stand for, `orders_of o` (sessions, Lists) the orders, 8 bytes each. Quoted are document 01 and the demands.
 use Rattle.std.specs.Prelude.{◌≡◌, Bool, ◌||◌, cond, false, not, List, ◌%◌, ◌*◌, ◌+◌, ◌/◌, ◌≤◌, ℕ, eqb, leb, ltb, length}
-use Rattle.model.specs.Answers.{accepted_by, accepted_count, answers}
+use Rattle.model.specs.Answers.{accepted_count, answers}
 use Rattle.book.specs.Decoding.{book_of}
 use Rattle.book.specs.Verdicts.{Accepted, check_result, refused}
 use Rattle.sessions.specs.Lists.{orders_of}
-use Rattle.answers.specs.Spaces.{ended}
+use Rattle.answers.specs.Spaces.{written}
 
 -- "10 if the orders aren't a multiple of 8 bytes or exceed 2,048 bytes"
 unfoldable pub wrong_list : List ℕ → Bool
 wrong_list o = ltb 2048 (length o) || not (eqb (length o % 8) 0)
 
--- "72 × (n + 1) for n orders"; request W7: "after the last answer come four 16-bit counts, so 8 more bytes are needed"
+-- "72 × (n + 1) for n orders"
 abbrev pub space_needed : List ℕ → ℕ
-space_needed o = 72 * (length o / 8 + 1) + 8
+space_needed o = 72 * (length o / 8 + 1)
 
--- "Refused as a book is; then 10 if …, place 0; 11 if the answer space is shorter than" that, "place that many bytes": the number returned, or 0
--- where the run is accepted
+-- "Refused as a book is; then 10 if …, place 0; 11 if the answer space is shorter than 72 × (n + 1) for n orders, place that many bytes": the
+-- number returned, or 0 where the run is accepted
 unfoldable pub run_refusal : List ℕ → List ℕ → ℕ → ℕ
 run_refusal b o room =
     cond (leb 65536 (check_result b)) (check_result b)
@@ -29,13 +29,12 @@ pub record RightInput (b o : List ℕ) (room : ℕ) : Type 0 where
   pub list : wrong_list o ≡ false
   pub enough : space_needed o ≤ room
 
--- "Accepted: the number of accepted orders"; request W7: "The call still returns their sum.", that of the counts
+-- "Accepted: the number of accepted orders"
 unfoldable pub run_result : List ℕ → List ℕ → ℕ → ℕ
 run_result b o room =
     cond (eqb (run_refusal b o room) 0) (accepted_count (book_of b) (orders_of o)) (run_refusal b o room)
 
--- the answer space at the end: the answers, the count of each hand, and then what was there (`ended`: answers, Spaces); "a refused run writes nothing"
+-- the answer space at the end: the answers, and then what was there (`written`: answers, Spaces); "a refused run writes nothing"
 unfoldable pub run_space : List ℕ → List ℕ → List ℕ → List ℕ
 run_space b o space =
-    cond (eqb (run_refusal b o (length space)) 0)
-    (ended (answers (book_of b) (orders_of o)) (accepted_by (book_of b) (orders_of o)) space) space
+    cond (eqb (run_refusal b o (length space)) 0) (written (answers (book_of b) (orders_of o)) space) space

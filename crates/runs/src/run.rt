@@ -1,9 +1,8 @@
 // The run of a list: any bytes as book and orders, any answer space.
 ghost use Rattle.std.specs.Prelude.{◌≡◌, ◌+◌, ◌*◌, ◌/◌, ◌<◌, length};
 ghost use Rattle.runs.specs.Results.{wrong_list, RightInput, run_result, run_space};
-ghost use Rattle.runs.specs.Runs.{RanThrough, RanTo};
+ghost use Rattle.runs.specs.Runs.{RanTo};
 
-use answers::hand::*;
 use engine::layout::*;
 use fields::wide;
 use sessions::orders::*;
@@ -15,10 +14,10 @@ const WRONG_LIST: u64 = 655360;
 
 const SHORT_SPACE: u64 = 720896;
 
-// What is left when every order has been run: how many of each hand were accepted, and the session.
+// What is left when every order has been run: how many were accepted, and the session.
 #[derive(Drop)]
 pub struct Ran {
-    pub counts: Counts,
+    pub accepted: u64,
     pub session: Session,
 }
 
@@ -26,7 +25,7 @@ pub struct Ran {
 // refused one, leaves it alone.
 pub fn run_orders(book: &[u8], orders: &[u8], answers: &mut [u8]) -> Ran
     requires { RightInput book.now orders.now (length answers.old) }
-    ensures { RanTo book.now orders.now answers.old (length orders.now / 8) result.session result.counts answers.new }
+    ensures { RanTo book.now orders.now answers.old (length orders.now / 8) result.session result.accepted answers.new }
 {
     let mut begins = [0usize; 8];
     let mut scopes = [0u32; 8];
@@ -35,15 +34,15 @@ pub fn run_orders(book: &[u8], orders: &[u8], answers: &mut [u8]) -> Ran
     let mut s = open(book, &begins, &scopes, &shorts);
     let first = s.now;
     let mut told = show_opening(answers, book, &begins, &shorts, first);
-    let mut counts = none_counted();
+    let mut accepted: u64 = 0;
     let mut i: usize = 0;
     while i < orders.len() / 8 {
         let order = &orders[8 * i..8 * i + 8];
         let depth = s.depth;
         let r = refusal(book, depth, order);
         i += 1;
-        counts = counts.after(order, r);
         if r == 0 {
+            accepted += 1;
             if order[0] == 1 {
                 let c = wide(order[1]);
                 let m = mask_of(order);
@@ -61,20 +60,9 @@ pub fn run_orders(book: &[u8], orders: &[u8], answers: &mut [u8]) -> Ran
         );
     }
     Ran {
-        counts: counts,
+        accepted: accepted,
         session: s,
     }
-}
-
-// A whole list, and its counts behind the last answer.
-pub fn run_list(book: &[u8], orders: &[u8], answers: &mut [u8]) -> Ran
-    requires { RightInput book.now orders.now (length answers.old) }
-    ensures { RanThrough book.now orders.now answers.old result.session result.counts answers.new }
-{
-    let r = run_orders(book, orders, answers);
-    let counts = r.counts;
-    put_counts(answers, 72 * (orders.len() / 8 + 1), counts);
-    r
 }
 
 // Whether the bytes are no list of at most 256 orders.
@@ -87,7 +75,7 @@ fn wrong_list(orders: &[u8]) -> bool
     orders.len() % 8 != 0
 }
 
-// The number of a run, its answers, and their counts.
+// The number of a run, and its answers.
 pub fn run(book: &[u8], orders: &[u8], answers: &mut [u8]) -> u64
     ensures { (result ≡ run_result book.now orders.now (length answers.old)) × (answers.new ≡ run_space book.now orders.now answers.old) }
 {
@@ -98,11 +86,10 @@ pub fn run(book: &[u8], orders: &[u8], answers: &mut [u8]) -> u64
     if wrong_list(orders) {
         return WRONG_LIST;
     }
-    let needed = 72 * (orders.len() / 8 + 1) + 8;
+    let needed = 72 * (orders.len() / 8 + 1);
     if answers.len() < needed {
         return SHORT_SPACE + (needed as u64);
     }
-    let r = run_list(book, orders, answers);
-    let counts = r.counts;
-    counts.total()
+    let r = run_orders(book, orders, answers);
+    r.accepted
 }

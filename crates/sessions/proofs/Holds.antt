@@ -3,7 +3,7 @@ use mathlib.Core.Path.{◌∙◌, ◌≡◌, ap, refl, subst, subst⁻¹, sym}
 use mathlib.Core.Bool.{Bool, ◌&&◌, false, not, true}
 use mathlib.Core.Logic.{◌⊎◌, inl, inr}
 use mathlib.Core.List.{List, [], ◌++◌, ◌∷◌}
-use Prim.Native.Nat.{◌+◌, ◌-◌, ◌<◌, ◌^◌, ◌≤◌, suc, zero, ℕ}
+use Prim.Native.Nat.{◌+◌, ◌-◌, ◌<◌, ◌^◌, ◌≤◌, suc, ℕ}
 use native.Mathlib.Nat.{lt_of_le_of_lt}
 use native.Mathlib.Omega.{arith}
 use lib.Arith.{lt_of_le-ne}
@@ -11,9 +11,9 @@ use lib.Bits.{and_le_l, bit_and}
 use lib.Dec.{eqb, leb, ltb}
 use lib.ListN.{get_or, length, length-set, set}
 use lib.Seq.{get_or-set_other, get_or-set_same}
-use borrow.Author.Tests.{eqb-false, eqb-true, le-leb, le-ltb, lt-leb, lt-ltb, ne_eqb}
+use borrow.Author.Tests.{eqb-false, eqb-true, le-leb, le-ltb, lt-leb, lt-ltb}
 use Rattle.model.specs.Masks.{bit}
-use Rattle.model.specs.Orders.{Entry, argument, before, checkpoint, depth, domains, is_other, kind, mask, narrowed, outside, push, refusal}
+use Rattle.model.specs.Orders.{Entry, argument, before, checkpoint, depth, domains, kind, mask, narrowed, outside, push, refusal}
 use Rattle.model.specs.Tests.{any_below}
 use Rattle.model.proofs.Masks.{bit-and, bit_of_zero, ones32, some_bit}
 use Rattle.model.proofs.Refusals.{accepted_back, accepted_mark, accepted_narrow, push-back, push_ind, push-mark, push-narrow, push_refused}
@@ -73,23 +73,6 @@ outside-mask b acc c m p v l fits ev ep = rw (count_at b c l) (go (either (eqb (
         let x = bit_and m (ones32 - p) in
         let s = some_bit 32 x (lt_of_le_of_lt (and_le_l m (ones32 - p)) fits) (positive x (eqb-false x 0 e)) in
         ap not e ∙ sym (any_below_i 32 (λ u. leb (values_of b c) u && bit u m) s.0 s.1 (sym (bits s.0 s.1) ∙ s.2))
-
--- ---- the kind of an order
-pub other_kind : (k : ℕ) → (k ≡ 0 → ⊥) → ltb 4 k ≡ is_other k
-other_kind zero n = absurd (n refl)
-other_kind (suc zero) n = refl
-other_kind (suc (suc zero)) n = refl
-other_kind (suc (suc (suc zero))) n = refl
-other_kind (suc (suc (suc (suc zero)))) n = refl
-other_kind (suc (suc (suc (suc (suc k))))) n =
-    let o = suc (suc (suc (suc (suc k)))) in
-    rw (
-      lt-ltb 4 o (omega arith),
-      ne_eqb o 1 (λ e. omega arith),
-      ne_eqb o 2 (λ e. omega arith),
-      ne_eqb o 3 (λ e. omega arith),
-      ne_eqb o 4 (λ e. omega arith),
-    ) refl
 
 -- ---- the methods
 -- the same domains, the same state

@@ -1,6 +1,6 @@
-// One order of 8 bytes: its mask, its limit, and whether it is refused.
+// One order of 8 bytes: its mask, and whether it is refused.
 ghost use Rattle.std.specs.Prelude.{◌≡◌, ◌<◌, length};
-ghost use Rattle.model.specs.Orders.{back_causes, finish_causes, first_cause, is_other, mark_causes, mask, narrow_causes, outside, some_wrong, try_limit, wrong_bytes, wrong_place, zero_places};
+ghost use Rattle.model.specs.Orders.{back_causes, finish_causes, first_cause, mark_causes, mask, narrow_causes, outside, some_wrong, try_limit, wrong_place, zero_places};
 ghost use Rattle.book.specs.Verdicts.{Accepted};
 ghost use Rattle.heads.specs.Heads.{columns_of};
 ghost use Rattle.book.specs.Decoding.{book_of};
@@ -39,39 +39,18 @@ fn zero_places(kind: u8) -> u32
     ensures { result ≡ zero_places kind }
 {
     if kind == 1 {
-        return 8;
+        return 12;
     }
     if kind == 2 {
-        return 250;
+        return 254;
     }
     if kind == 3 {
-        return 248;
+        return 252;
     }
     if kind == 4 {
-        return 10;
+        return 14;
     }
     0
-}
-
-// Whether the order has a byte that its kind has not, or a hand above 3.
-fn wrong_bytes(order: &[u8]) -> bool
-    requires { length order.now ≡ 8 }
-    ensures { result ≡ wrong_bytes order.now }
-{
-    if some_wrong(order, zero_places(order[0])) {
-        return true;
-    }
-    3 < order[2]
-}
-
-// Whether the kind is none of the four.
-fn is_other(kind: u8) -> bool
-    ensures { result ≡ is_other kind }
-{
-    if kind == 0 {
-        return true;
-    }
-    4 < kind
 }
 
 // The mask of an order.
@@ -159,10 +138,7 @@ pub fn refusal(book: &[u8], depth: usize, order: &[u8]) -> u32
     ensures { RefusesAt book.now depth order.now result }
 {
     let kind = order[0];
-    if is_other(kind) {
-        return 20;
-    }
-    if wrong_bytes(order) {
+    if some_wrong(order, zero_places(kind)) {
         return 25;
     }
     if kind == 1 {
@@ -174,5 +150,8 @@ pub fn refusal(book: &[u8], depth: usize, order: &[u8]) -> u32
     if kind == 3 {
         return refused_back(depth, order);
     }
-    refused_finish(order)
+    if kind == 4 {
+        return refused_finish(order);
+    }
+    20
 }

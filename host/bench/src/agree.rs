@@ -14,7 +14,7 @@ use crate::measurement::Kind;
 use crate::opponents::{self, finish, Finish, Packed, Shown, Words, NOTHING};
 use crate::subjects::Subject;
 use crate::{timed, Effort};
-use conformance::{by, Case, Order, Run, ANY};
+use conformance::{Case, Order, Run, ANY};
 use fitting::Outcome;
 use std::num::NonZeroU16;
 
@@ -32,9 +32,8 @@ pub fn on_seeds(effort: &Effort) {
         if !plain && !is_for_gecode(&book) {
             continue;
         }
-        // Document 01 knows no hands, and hand 0 is what it has in their place.
-        let orders = orders.as_chunks().0.iter().map(|order| by(0, *order));
-        let orders = ending(&book, orders.filter(is_plain).take(256).collect());
+        let orders = orders.as_chunks().0.iter().filter(|order| is_plain(order));
+        let orders = ending(&book, orders.take(256).copied().collect());
         let gecode = (seed < effort.gecode).then(|| Tables::of(&book)).flatten();
         if plain {
             on_tries(&book);

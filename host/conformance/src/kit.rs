@@ -22,7 +22,7 @@ pub fn folder() -> PathBuf {
 /// What the space is filled with before most runs: no byte of an answer is likely to have it.
 const FILL: u8 = 165;
 
-/// The bytes of most spaces after the counts, so that a write past them is seen.
+/// The bytes of most spaces after the last answer, so that a write past it is seen.
 const SPARE: usize = 24;
 
 /// One input, and why it is there.

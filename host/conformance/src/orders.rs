@@ -35,14 +35,8 @@ pub fn finish(limit: u32) -> Order {
 }
 
 /// The order with this limit in its bytes 4 to 7.
-pub fn with_limit(mut order: Order, limit: u32) -> Order {
+pub(crate) fn with_limit(mut order: Order, limit: u32) -> Order {
     order[4..].copy_from_slice(&limit.to_le_bytes());
-    order
-}
-
-/// The order given by this hand.
-pub fn by(hand: u8, mut order: Order) -> Order {
-    order[2] = hand;
     order
 }
 
@@ -100,8 +94,8 @@ pub fn any_list(random: &mut Random, book: &Book, aim: &[u8], length: usize) -> 
 /// How deep the list is after this order.
 fn depth_after(depth: u8, order: &Order) -> u8 {
     match *order {
-        [2, 0, 0..=3, 0, 0, 0, 0, 0] if depth < 16 => depth + 1,
-        [3, m, 0..=3, 0, 0, 0, 0, 0] if (1..=depth).contains(&m) => m - 1,
+        MARK if depth < 16 => depth + 1,
+        [3, m, 0, 0, 0, 0, 0, 0] if (1..=depth).contains(&m) => m - 1,
         _ => depth,
     }
 }
@@ -170,11 +164,10 @@ fn wrong_order(random: &mut Random, book: &Book, depth: u8) -> Order {
     }
 }
 
-/// The order with some byte from here to there that isn't zero, or its hand above 3.
+/// The order with some byte from here to there that isn't zero.
 fn with_a_byte(random: &mut Random, mut order: Order, first: usize, last: usize) -> Order {
     let byte = 1 << random.below(8);
-    let at = random.within(first..=last);
-    order[at] |= if at == 2 { byte.max(4) } else { byte };
+    order[random.within(first..=last)] |= byte;
     order
 }
 

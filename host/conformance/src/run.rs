@@ -2,12 +2,10 @@
 
 use crate::covers::covering;
 use crate::forbidding::{forbidding, partly_turned};
-use crate::hands::{fill_counts, hand_out};
 use crate::limits::limit_finishes;
 use crate::orders::{any_list, back, finish, narrow, searches, FINISH, MARK};
 use crate::searching::searching;
-use crate::{all_values, any_book, books, counts_start, plant, space_for, write};
-use crate::{Book, Case, Order, Random};
+use crate::{all_values, any_book, books, plant, space_for, write, Book, Case, Order, Random};
 use std::ops::RangeInclusive;
 
 /// What kind of book a run has.
@@ -90,13 +88,8 @@ impl Run {
             Shape::Searching if list.len() < 25 => list.insert(0, FINISH),
             _ => {}
         }
-        // In one of the largest books a refused narrow would leave the last finish too much to do.
-        hand_out(random, &mut list, shape != Shape::Largest);
         if shape != Shape::Largest {
             limit_finishes(random, &book, &mut list);
-            if list.len() == 256 {
-                fill_counts(random, &book, &mut list);
-            }
         }
         let orders = list_bytes(random, &list);
         let book = match shape {
@@ -164,7 +157,7 @@ fn to_and_fro(random: &mut Random, list: &mut Vec<Order>, book: &Book) {
     list.splice(0..0, [MARK, taken, back(1)]);
 }
 
-/// As many bytes as the answers and counts need, or one too few, or none for the counts, or any other number.
+/// As many bytes as the answers need, or one too few, or any other number.
 fn space(random: &mut Random, orders: &[u8]) -> usize {
     let needed = space_for(orders);
     match random.below(32) {
@@ -172,7 +165,6 @@ fn space(random: &mut Random, orders: &[u8]) -> usize {
         1 => random.below(needed),
         2 => needed + 1,
         3..=5 => needed + random.within(1..=200),
-        6 => counts_start(orders),
         _ => needed,
     }
 }
@@ -182,7 +174,7 @@ fn length(random: &mut Random, shape: Shape) -> usize {
     // It is slowest on the largest books.
     let rare = if shape == Shape::Largest { 4 } else { 1 };
     if random.once_in(30 * rare) {
-        random.pick(&[255, 256, 256, 256, 256, 257, 258, 300])
+        random.pick(&[255, 256, 256, 257, 258, 300])
     } else if random.once_in(12 * rare) {
         random.within(25..=80)
     } else if random.once_in(12) {

@@ -1,6 +1,4 @@
-//! An answer, read from its 72 bytes; and the counts after the last one.
-
-use reference::HANDS;
+//! An answer, read from its 72 bytes.
 
 /// What one answer shows.
 #[derive(Clone, Copy, Debug, PartialEq, Eq)]
@@ -47,17 +45,11 @@ impl Seen {
         }
     }
 
-    /// Reads every answer of a space that has nothing after its counts.
+    /// Reads every answer of a space that has nothing after them.
     pub fn read_all(space: &[u8]) -> Vec<Self> {
-        let (answers, counts) = space.as_chunks();
-        assert_eq!(counts.len(), 2 * HANDS);
+        let (answers, rest) = space.as_chunks();
+        assert!(rest.is_empty());
         answers.iter().map(Self::read).collect()
-    }
-
-    /// Reads the last answer of such a space.
-    pub fn read_last(space: &[u8]) -> Self {
-        let answers = Self::read_all(space);
-        *answers.last().expect("an answer")
     }
 
     /// The state at each of these answers, the opening first: a finish shows its full set where the domains would be,
@@ -78,13 +70,6 @@ impl Seen {
     pub fn is_dead(&self) -> bool {
         self.status == 0
     }
-}
-
-/// The counts of a space that has nothing after them, for each hand.
-pub fn read_counts(space: &[u8]) -> [u16; HANDS] {
-    let (_, counts) = space.as_chunks::<72>();
-    let counts = counts.as_chunks().0;
-    std::array::from_fn(|hand| u16::from_le_bytes(counts[hand]))
 }
 
 /// How many values these domains have together.

@@ -104,7 +104,7 @@ fn no_step_outside_of_any_length() {
     let mut bytes = write(&regular(16, 32, 8, 508, 4));
     bytes.resize(5 * PAGE, 0);
     for length in (0..=bytes.len()).filter(|length| length % 512 < 5 || length % 512 > 507) {
-        lent.agrees(&bytes[..length], &MARK, space_for(&MARK));
+        lent.agrees(&bytes[..length], &MARK, 144);
     }
 }
 
@@ -112,7 +112,7 @@ fn no_step_outside_of_any_length() {
 fn no_step_outside_of_seeded_books_and_runs() {
     let lent = Lent::new();
     for seed in 0..10_000 {
-        lent.agrees(&Case::new(seed).bytes, &MARK, space_for(&MARK));
+        lent.agrees(&Case::new(seed).bytes, &MARK, 144);
         let run = Run::new(seed);
         lent.agrees(&run.book, &run.orders, run.space);
     }

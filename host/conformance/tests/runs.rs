@@ -3,12 +3,10 @@
 //!
 //! `FITTING_SESSIONS` asks for more of them than the usual number.
 
-use conformance::{agreed_run, asked, counts_start, read_counts, show, space_for};
-use conformance::{
-    count_done, count_forbidden, count_hands, count_short, count_steps, count_tries,
-};
-use conformance::{look_for_done, look_for_forbidden, look_for_hands};
-use conformance::{look_for_steps, look_for_tries, Random, Run, Seen, Shape::*, Tally};
+use conformance::{agreed_run, asked, show, space_for};
+use conformance::{count_done, count_forbidden, count_short, count_steps, count_tries};
+use conformance::{look_for_done, look_for_forbidden, look_for_steps, look_for_tries};
+use conformance::{Random, Run, Seen, Shape::*, Tally};
 use reference::{book_refusals, run_refusals};
 use std::panic;
 
@@ -38,10 +36,6 @@ fn answers(seed: u64, tally: &mut Tally) -> Vec<Seen> {
             "spaces short by one",
             refusal == 11 && run.space + 1 == needed,
         ),
-        (
-            "spaces for the answers alone",
-            refusal == 11 && run.space == counts_start(&run.orders),
-        ),
         ("exact spaces", refusal == 0 && run.space == needed),
         ("long spaces", refusal == 0 && run.space > needed),
     ] {
@@ -53,7 +47,6 @@ fn answers(seed: u64, tally: &mut Tally) -> Vec<Seen> {
     let answers = Seen::read_all(&space[..needed]);
     let accepted = answers[1..].iter().filter(|answer| answer.refusal == 0);
     assert_eq!(accepted.count() as u64, number, "seed {seed}");
-    let counts = read_counts(&space[..needed]);
     prefix_runs_alike(seed, &run, &space);
     let book = reference::decode(&run.book).expect("an accepted book");
     let orders = run.orders.as_chunks().0;
@@ -62,7 +55,6 @@ fn answers(seed: u64, tally: &mut Tally) -> Vec<Seen> {
     count_done(tally, &book, orders, &answers);
     count_tries(tally, &book, orders, &answers);
     count_forbidden(tally, &book, orders, &answers);
-    count_hands(tally, &book, orders, &answers, counts);
     answers
 }
 
@@ -73,8 +65,7 @@ fn prefix_runs_alike(seed: u64, run: &Run, space: &[u8]) {
     let mut prefix = vec![0xEE; space_for(orders)];
     let number = fitting::run_number(&run.book, orders, &mut prefix);
     assert!(number < 65_536, "seed {seed}, {length} orders");
-    let answers = ..counts_start(orders);
-    let same = prefix[answers] == space[answers];
+    let same = prefix == space[..prefix.len()];
     assert!(same, "seed {seed}, {length} orders");
 }
 
@@ -85,7 +76,6 @@ fn every_run_agrees() {
     look_for_done(&mut tally);
     look_for_tries(&mut tally);
     look_for_forbidden(&mut tally);
-    look_for_hands(&mut tally);
     let books = book_refusals().into_iter().map(|(refusal, _)| refusal);
     for refusal in books.chain(run_refusals()).chain([0]) {
         tally.add(&format!("runs, refusal {refusal}"), 0);

@@ -28,7 +28,8 @@ fn rows(book: &Book) -> usize {
 fn after(book: &Book, orders: &[Order]) -> Vec<u32> {
     let orders = orders.concat();
     let (_, space) = agreed_run(&write(book), &orders, space_for(&orders));
-    Seen::read_last(&space).domains[..book.counts.len()].to_vec()
+    let seen = Seen::read(space.last_chunk().expect("an answer"));
+    seen.domains[..book.counts.len()].to_vec()
 }
 
 /// Any in each set of places, for each width, beside a plain row: after every narrow of every column to

@@ -38,28 +38,28 @@ fn the_longest_list() {
     for (order, accepted) in [(MARK, 16), (narrows, 256), (FINISH, 256), (back(1), 0)] {
         let orders = order.repeat(257);
         let most = &orders[..2_048];
-        assert_eq!(number(&book, most, 18_512), accepted);
-        assert_eq!(number(&book, most, 18_511), refused(11, 18_512));
-        assert_eq!(number(&book, &orders, 72 * 258 + 8), refused(10, 0));
+        assert_eq!(number(&book, most, 72 * 257), accepted);
+        assert_eq!(number(&book, most, 72 * 257 - 1), refused(11, 72 * 257));
+        assert_eq!(number(&book, &orders, 72 * 258), refused(10, 0));
         for length in [2_049, 2_055, 4_096, 65_536, 524_288] {
             let longer = order.repeat(length / 8 + 1);
             let longer = &longer[..length];
-            assert_eq!(number(&book, longer, 18_512), refused(10, 0));
+            assert_eq!(number(&book, longer, 72 * 257), refused(10, 0));
         }
     }
     let to_and_fro = [MARK, back(1)].concat().repeat(128);
-    assert_eq!(number(&book, &to_and_fro, 18_512), 256);
+    assert_eq!(number(&book, &to_and_fro, 72 * 257), 256);
 }
 
-/// Every length of the space around each number of answers: 11 names the bytes that are needed, those of the counts
-/// among them, and later bytes are left alone.
+/// Every length of the space around each number of answers: 11 names the bytes that are needed, and
+/// later bytes are left alone.
 #[test]
 fn every_length_of_the_space() {
     let book = write(&harbour());
     for count in [0, 1, 2, 3] {
         let orders = [MARK, narrow(BOARD, 1), FINISH].concat();
         let orders = &orders[..8 * count];
-        let needed = 72 * (count + 1) + 8;
+        let needed = 72 * (count + 1);
         for space in 0..=needed + 80 {
             let expected = if space < needed {
                 refused(11, needed)
@@ -71,15 +71,11 @@ fn every_length_of_the_space() {
     }
     for count in 0..=256 {
         let orders = MARK.repeat(count);
-        let answers = 72 * (count + 1);
+        let needed = 72 * (count + 1);
         let accepted = count.min(16) as u64;
-        // What was enough before there were counts is the first of these.
-        for more in 0..8 {
-            let number = number(&book, &orders, answers + more);
-            assert_eq!(number, refused(11, answers + 8));
-        }
-        assert_eq!(number(&book, &orders, answers + 8), accepted);
-        assert_eq!(number(&book, &orders, answers + 9), accepted);
+        assert_eq!(number(&book, &orders, needed - 1), refused(11, needed));
+        assert_eq!(number(&book, &orders, needed), accepted);
+        assert_eq!(number(&book, &orders, needed + 1), accepted);
     }
     assert_eq!(number(&book, &MARK.repeat(256), 1 << 20), 16);
 }
@@ -92,7 +88,7 @@ fn what_is_refused_first() {
     wrong[600] ^= 1;
     let [value, filler] = [(513, 2), (514, 1)].map(|change| changed(&harbour(), &[change]));
     let [no_orders, ragged, too_many] = [vec![], vec![0; 9], vec![0; 2_056]];
-    for space in [0, 72, 79, 80, 152, 20_000] {
+    for space in [0, 71, 72, 144, 20_000] {
         for orders in [&no_orders, &ragged, &too_many] {
             assert_eq!(number(&wrong, orders, space), refused(2, 1));
             assert_eq!(number(&[], orders, space), refused(1, 0));
@@ -103,6 +99,6 @@ fn what_is_refused_first() {
         assert_eq!(number(&right, &ragged, space), refused(10, 0));
         assert_eq!(number(&right, &too_many, space), refused(10, 0));
     }
-    assert_eq!(number(&right, &no_orders, 79), refused(11, 80));
-    assert_eq!(number(&right, &no_orders, 80), 0);
+    assert_eq!(number(&right, &no_orders, 71), refused(11, 72));
+    assert_eq!(number(&right, &no_orders, 72), 0);
 }

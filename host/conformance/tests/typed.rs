@@ -1,13 +1,12 @@
 //! The typed run of `fitting` says what the bytes say, and its refusals name what is wrong in them.
 
 use conformance::{
-    any_book, by, hand_of, harbour, mend, mend_block, read_counts, refused, regular, rising_rows,
-    row_bytes, space_for, write,
+    any_book, harbour, mend, mend_block, refused, regular, rising_rows, row_bytes, space_for, write,
 };
-use conformance::{Random, Region, RowByte, Run, Seen, Tally, ANY, HANDS};
+use conformance::{Random, Region, RowByte, Run, Seen, Tally, ANY};
 use fitting::{
-    Answer, Answers, Book, Cell, Field, Hand, Order, OrderList, Outcome, Refusal, RowPlace, Space,
-    Status, Values,
+    Answer, Answers, Book, Cell, Field, OrderList, Outcome, Refusal, RowPlace, Space, Status,
+    Values,
 };
 use reference::lies_in;
 use std::panic;
@@ -38,12 +37,8 @@ fn seen(answer: Answer) -> Seen {
     }
 }
 
-/// What the answers and their counts give, by every way to them, against the space of the independent version.
-fn read_alike(answers: Answers, book: Book, space: &[u8]) {
-    let (expected, counts) = (&Seen::read_all(space)[..], read_counts(space));
-    assert_eq!(answers.counts(), counts);
-    assert_eq!(Hand::ALL.map(|hand| answers.accepted_by(hand)), counts);
-    assert_eq!(answers.accepted(), counts.map(usize::from).iter().sum());
+/// What the answers give, by every way to them, against the bytes of the independent version.
+fn read_alike(answers: Answers, book: Book, expected: &[Seen]) {
     let read: Vec<Seen> = answers.iter().map(seen).collect();
     assert_eq!(read, expected);
     assert_eq!(seen(answers.opening()), expected[0]);
@@ -90,26 +85,6 @@ fn live_alike(answer: Answer, book: Book) {
     }
 }
 
-/// The orders of a list with their hands, against its bytes, and the list made of them once more. Without the hands all
-/// are given by hand 0, but for bytes that are no order.
-fn listed_alike(list: &OrderList, bytes: &[u8]) {
-    assert_eq!(list.as_bytes(), bytes);
-    assert_eq!(fitting::space_for(list.len()), space_for(bytes));
-    assert_eq!(OrderList::of_by(list.iter_by()), Ok(list.clone()));
-    let by_hand_0 = OrderList::of(list).expect("no more orders");
-    let orders = bytes.as_chunks().0.iter();
-    let by_hand_0 = by_hand_0.as_bytes().as_chunks().0;
-    for ((bytes, by_hand_0), (hand, order)) in orders.zip(by_hand_0).zip(list.iter_by()) {
-        let known = hand_of(bytes) < HANDS;
-        let number = if known { hand_of(bytes) } else { 0 };
-        assert_eq!(usize::from(hand.number()), number);
-        assert_eq!(order.bytes_by(hand), *bytes);
-        let raw = order == Order::Raw(*bytes);
-        assert!(known || raw);
-        assert_eq!(*by_hand_0, if raw { *bytes } else { by(0, *bytes) });
-    }
-}
-
 /// The typed run of these bytes, by both ways, against the independent version's; what came of it, in
 /// words.
 fn tried(run: &Run) -> &'static str {
@@ -122,7 +97,8 @@ fn tried(run: &Run) -> &'static str {
         assert_eq!(Refusal::read(number, &run.book), Some(refusal));
         return "refused by their length";
     };
-    listed_alike(&list, &run.orders);
+    assert_eq!(list.as_bytes(), run.orders);
+    assert_eq!(OrderList::of(&list), Ok(list.clone()));
     let mut bytes = vec![0; run.space];
     let typed = fitting::run(&run.book, &list, &mut bytes);
     match typed {
@@ -138,7 +114,7 @@ fn tried(run: &Run) -> &'static str {
         let answers = book.run(&list, &mut space);
         expected.resize(space_for(&run.orders), 0);
         reference::run(&run.book, &run.orders, &mut expected);
-        read_alike(answers, book, &expected);
+        read_alike(answers, book, &Seen::read_all(&expected));
         assert!(typed.is_err() || typed == Ok(answers));
     }
     match typed {

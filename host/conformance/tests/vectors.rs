@@ -93,102 +93,87 @@ fn the_library_and_the_program_agree_with_each() {
 /// by 2 boards is done; one of nine pairs but 0 0 is so while one of its columns lacks value 0. H's set takes two tries
 /// at the opening, K7's none takes two: a limit of 1 stops both. With width 0 and board 0 forbidden in H, board 0 leaves
 /// width 1 alone, and board 1 is in the first set. Of 2 by 2 with 0 0 forbidden, 0 in either column leaves 1 in the other;
-/// of 3 by 3 without 0 0 and 0 1 the sheet is done once 0, or both others, are gone. By hands 1, 2, 3, 0, 3 and 1 the paper's
-/// run has the same lines but the last, where the fifth order counts for nobody; of five orders by hand 4 none is accepted,
-/// and of the same five by hand 3 each is.
+/// of 3 by 3 without 0 0 and 0 1 the sheet is done once 0, or both others, are gone.
 #[rustfmt::skip]
-const EXAMPLES: [(&str, &[&str]); 29] = [
-    ("k1-opening", &["0 0 1 0 0 0 7 3 3", "accepted 0 0 0 0"]),
-    ("k2-width-4", &["0 0 1 0 0 0 7 3 3", "1 0 2 0 3 0 4 2 2", "accepted 1 0 0 0"]),
-    ("k3-board-1", &["0 0 1 0 0 0 7 3 3", "1 0 1 0 3 0 3 1 1", "accepted 1 0 0 0"]),
-    ("k4-then-motor-2", &["0 0 1 0 0 0 7 3 3", "1 0 1 0 3 0 3 1 1", "2 0 0 0 0 0 0 0 0", "accepted 2 0 0 0"]),
-    ("k5-width-2", &["0 0 1 0 0 0 7 3 3", "1 0 1 0 1 0 2 3 3", "accepted 1 0 0 0"]),
-    ("k6-finish", &["0 0 1 0 0 0 7 3 3", "1 0 1 0 0 1 1 1 1", "accepted 1 0 0 0"]),
-    ("k7-three-that-differ", &["0 0 1 0 0 0 3 3 3", "1 0 1 0 0 2 0 0 0", "accepted 1 0 0 0"]),
-    ("k8-sheet-without-rows", &["0 0 0 0 0 0 0", "1 0 0 0 0 2 0", "accepted 1 0 0 0"]),
-    ("k9-no-sheets", &["0 0 1 0 0 0 1 3 2147483647 4294967295", "1 0 1 0 0 1 1 1 1 1", "accepted 1 0 0 0"]),
-    ("k10-width-8", &["0 0 1 0 0 0 7 3 3", "1 22 1 0 0 0 7 3 3", "accepted 0 0 0 0"]),
+const EXAMPLES: [(&str, &[&str]); 26] = [
+    ("k1-opening", &["0 0 1 0 0 0 7 3 3", "accepted 0"]),
+    ("k2-width-4", &["0 0 1 0 0 0 7 3 3", "1 0 2 0 3 0 4 2 2", "accepted 1"]),
+    ("k3-board-1", &["0 0 1 0 0 0 7 3 3", "1 0 1 0 3 0 3 1 1", "accepted 1"]),
+    ("k4-then-motor-2", &["0 0 1 0 0 0 7 3 3", "1 0 1 0 3 0 3 1 1", "2 0 0 0 0 0 0 0 0", "accepted 2"]),
+    ("k5-width-2", &["0 0 1 0 0 0 7 3 3", "1 0 1 0 1 0 2 3 3", "accepted 1"]),
+    ("k6-finish", &["0 0 1 0 0 0 7 3 3", "1 0 1 0 0 1 1 1 1", "accepted 1"]),
+    ("k7-three-that-differ", &["0 0 1 0 0 0 3 3 3", "1 0 1 0 0 2 0 0 0", "accepted 1"]),
+    ("k8-sheet-without-rows", &["0 0 0 0 0 0 0", "1 0 0 0 0 2 0", "accepted 1"]),
+    ("k9-no-sheets", &["0 0 1 0 0 0 1 3 2147483647 4294967295", "1 0 1 0 0 1 1 1 1 1", "accepted 1"]),
+    ("k10-width-8", &["0 0 1 0 0 0 7 3 3", "1 22 1 0 0 0 7 3 3", "accepted 0"]),
     ("paper-run", &[
         "0 0 1 0 0 0 7 3 3", "1 0 1 1 0 0 7 3 3", "2 0 1 1 3 0 3 1 1", "3 0 1 1 3 1 1 1 1",
-        "4 0 1 0 0 0 7 3 3", "5 24 1 0 0 0 7 3 3", "6 0 2 0 3 0 4 2 2", "accepted 5 0 0 0",
+        "4 0 1 0 0 0 7 3 3", "5 24 1 0 0 0 7 3 3", "6 0 2 0 3 0 4 2 2", "accepted 5",
     ]),
     ("finish-leaves-the-state", &[
         "0 0 1 0 0 0 7 3 3", "1 0 1 0 0 1 1 1 1", "2 0 1 0 0 0 6 3 3", "3 0 1 0 0 1 2 1 1",
-        "4 0 1 1 0 0 6 3 3", "5 0 2 1 3 0 4 2 2", "6 0 2 1 3 1 4 2 2", "7 0 1 0 0 0 6 3 3", "accepted 7 0 0 0",
+        "4 0 1 1 0 0 6 3 3", "5 0 2 1 3 0 4 2 2", "6 0 2 1 3 1 4 2 2", "7 0 1 0 0 0 6 3 3", "accepted 7",
     ]),
     ("walk-through", &[
         "0 0 1 0 0 0 503 959 895", "1 0 1 0 0 0 22 62 286", "2 0 1 0 0 0 22 30 30", "3 0 1 0 0 0 22 30 30",
-        "4 0 1 0 0 0 22 24 6", "5 0 1 0 0 1 2 8 4", "accepted 5 0 0 0",
+        "4 0 1 0 0 0 22 24 6", "5 0 1 0 0 1 2 8 4", "accepted 5",
     ]),
     ("any-board", &[
         "0 0 1 0 0 0 7 3 3", "1 0 1 1 0 0 7 3 3", "2 0 1 1 3 0 3 1 1", "3 0 1 1 3 1 1 1 1",
-        "4 0 1 0 0 0 7 3 3", "5 24 1 0 0 0 7 3 3", "6 0 2 0 3 0 4 2 2", "accepted 5 0 0 0",
+        "4 0 1 0 0 0 7 3 3", "5 24 1 0 0 0 7 3 3", "6 0 2 0 3 0 4 2 2", "accepted 5",
     ]),
     ("any-row-that-goes", &[
         "0 0 1 0 0 0 3 15", "1 0 1 1 0 0 3 15", "2 0 2 1 1 0 2 8", "3 0 1 0 0 0 3 15", "4 0 1 0 1 0 1 7",
-        "5 0 0 0 0 0 0 0", "6 0 0 0 0 2 0 0", "accepted 6 0 0 0",
+        "5 0 0 0 0 0 0 0", "6 0 0 0 0 2 0 0", "accepted 6",
     ]),
     ("any-of-lost-values", &[
         "0 0 1 0 1 0 1 6 3", "1 0 1 1 1 0 1 6 3", "2 0 2 1 3 0 1 4 1", "3 0 2 1 3 1 1 4 1", "4 0 1 0 1 0 1 6 3",
-        "5 0 1 0 3 0 1 4 3", "6 0 1 0 3 1 1 4 1", "accepted 6 0 0 0",
+        "5 0 1 0 3 0 1 4 3", "6 0 1 0 3 1 1 4 1", "accepted 6",
     ]),
     ("done-all-four", &[
         "0 0 1 0 1 0 3 3", "1 0 1 0 1 1 1 1", "2 0 1 1 1 0 3 3", "3 0 1 1 1 0 1 3", "4 0 2 1 1 0 1 2",
-        "5 0 1 0 1 0 3 3", "6 0 1 0 1 0 3 1", "accepted 6 0 0 0",
+        "5 0 1 0 1 0 3 3", "6 0 1 0 1 0 3 1", "accepted 6",
     ]),
     ("done-all-but-the-first", &[
         "0 0 1 0 0 0 7 7", "1 0 1 1 0 0 7 7", "2 0 1 1 0 0 3 7", "3 0 1 1 0 0 3 3", "4 0 1 0 0 0 7 7",
         "5 0 1 1 0 0 7 7", "6 0 1 1 1 0 6 7", "7 0 1 0 0 0 7 7", "8 0 1 1 0 0 7 7", "9 0 1 1 1 0 7 6",
         "10 0 1 1 1 0 5 6", "11 0 1 0 0 0 7 7", "12 0 1 0 0 0 7 5", "13 0 1 0 0 0 5 5", "14 0 1 0 1 0 4 5",
-        "accepted 14 0 0 0",
+        "accepted 14",
     ]),
     ("tries-of-harbour", &[
         "0 0 1 0 0 0 7 3 3", "1 0 1 0 0 3 0 0 0", "2 0 1 0 0 1 1 1 1", "3 0 1 0 0 1 1 1 1", "4 0 1 0 0 1 1 1 1",
-        "5 0 1 0 0 1 1 1 1", "accepted 5 0 0 0",
+        "5 0 1 0 0 1 1 1 1", "accepted 5",
     ]),
     ("tries-that-end-dead", &[
         "0 0 1 0 0 0 3 3 3", "1 0 1 0 0 3 0 0 0", "2 0 1 0 0 2 0 0 0", "3 0 1 0 0 2 0 0 0", "4 0 1 0 0 2 0 0 0",
-        "accepted 4 0 0 0",
+        "accepted 4",
     ]),
     ("forbidden-pair-in-harbour", &[
         "0 0 1 0 0 0 7 3 3", "1 0 1 1 0 0 7 3 3", "2 0 2 1 7 0 2 1 1", "3 0 2 1 7 1 2 1 1",
-        "4 0 1 0 0 0 7 3 3", "5 24 1 0 0 0 7 3 3", "6 0 1 0 0 1 1 1 2", "7 0 2 0 7 0 4 2 2", "accepted 6 0 0 0",
+        "4 0 1 0 0 0 7 3 3", "5 24 1 0 0 0 7 3 3", "6 0 1 0 0 1 1 1 2", "7 0 2 0 7 0 4 2 2", "accepted 6",
     ]),
     ("forbidden-without-rows", &[
         "0 0 1 0 1 0 3 7", "1 0 1 0 1 1 1 1", "2 0 1 1 1 0 3 7", "3 0 1 1 1 0 3 5", "4 0 1 1 1 1 1 1", "5 0 1 1 1 0 2 5",
-        "6 0 1 0 1 0 3 7", "7 0 0 0 0 0 0 0", "8 0 0 0 0 2 0 0", "accepted 8 0 0 0",
+        "6 0 1 0 1 0 3 7", "7 0 0 0 0 0 0 0", "8 0 0 0 0 2 0 0", "accepted 8",
     ]),
     ("forbidden-everything", &[
-        "0 0 0 0 0 0 0 0 0", "1 0 0 0 0 2 0 0 0", "2 0 0 1 0 0 0 0 0", "3 0 0 1 0 0 0 0 0", "4 0 0 0 0 0 0 0 0", "accepted 4 0 0 0",
+        "0 0 0 0 0 0 0 0 0", "1 0 0 0 0 2 0 0 0", "2 0 0 1 0 0 0 0 0", "3 0 0 1 0 0 0 0 0", "4 0 0 0 0 0 0 0 0", "accepted 4",
     ]),
     ("forbidden-strike-without-a-cut", &[
         "0 0 1 0 0 0 3 3", "1 0 1 1 0 0 3 3", "2 0 2 1 1 0 2 1", "3 0 2 1 1 1 2 1", "4 0 1 0 0 0 3 3",
         "5 0 1 1 0 0 3 3", "6 0 2 1 1 0 1 2", "7 0 2 1 1 1 1 2", "8 0 1 0 0 0 3 3", "9 0 1 1 0 0 3 3",
         "10 0 1 1 1 0 3 2", "11 0 1 1 1 1 1 2", "12 0 1 0 0 0 3 3", "13 0 1 0 1 0 2 3", "14 0 2 0 1 0 2 1",
-        "accepted 14 0 0 0",
+        "accepted 14",
     ]),
     ("forbidden-done", &[
         "0 0 1 0 0 0 7 7", "1 0 1 0 0 1 1 4", "2 0 1 1 0 0 7 7", "3 0 1 1 1 0 6 7", "4 0 1 1 1 1 2 1",
         "5 0 1 0 0 0 7 7", "6 0 1 1 0 0 7 7", "7 0 1 1 1 0 7 4", "8 0 1 0 0 0 7 7", "9 0 1 1 0 0 7 7",
         "10 0 1 1 0 0 7 6", "11 0 1 0 0 0 7 7", "12 0 1 1 0 0 7 7", "13 0 1 1 1 0 6 2", "14 0 1 0 0 0 7 7",
-        "15 0 1 0 0 0 3 7", "accepted 15 0 0 0",
+        "15 0 1 0 0 0 3 7", "accepted 15",
     ]),
     ("forbidden-three-that-differ", &[
         "0 0 1 0 0 0 3 3 3", "1 0 1 0 0 3 0 0 0", "2 0 1 0 0 2 0 0 0", "3 0 1 0 0 2 0 0 0", "4 0 0 0 0 0 0 0 0",
-        "5 0 0 0 0 2 0 0 0", "accepted 5 0 0 0",
-    ]),
-    ("counts-of-four-hands", &[
-        "0 0 1 0 0 0 7 3 3", "1 0 1 1 0 0 7 3 3", "2 0 1 1 3 0 3 1 1", "3 0 1 1 3 1 1 1 1",
-        "4 0 1 0 0 0 7 3 3", "5 24 1 0 0 0 7 3 3", "6 0 2 0 3 0 4 2 2", "accepted 1 2 1 1",
-    ]),
-    ("hand-4-of-each-kind", &[
-        "0 0 1 0 0 0 7 3 3", "1 0 1 1 0 0 7 3 3", "2 25 1 1 0 0 7 3 3", "3 25 1 1 0 0 7 3 3", "4 25 1 1 0 0 7 3 3",
-        "5 25 1 1 0 0 7 3 3", "6 25 1 1 0 0 7 3 3", "7 0 2 1 3 0 4 2 2", "8 0 2 1 3 1 4 2 2", "9 0 2 1 3 1 4 2 2",
-        "10 0 2 2 3 0 4 2 2", "11 0 1 0 0 0 7 3 3", "accepted 1 0 0 5",
-    ]),
-    ("hands-share-a-session", &[
-        "0 0 1 0 0 0 7 3 3", "1 0 1 1 0 0 7 3 3", "2 0 1 1 0 0 6 3 3", "3 0 2 1 3 0 2 1 1", "4 0 1 0 0 0 7 3 3",
-        "5 0 2 0 3 0 4 2 2", "6 24 2 0 3 0 4 2 2", "7 0 2 0 3 1 4 2 2", "accepted 1 2 1 2",
+        "5 0 0 0 0 2 0 0 0", "accepted 5",
     ]),
 ];
 
@@ -235,46 +220,6 @@ fn the_tries_of_the_examples() {
         let tries: Vec<u16> = answers.map(|answer| Seen::read(answer).tries).collect();
         assert_eq!(tries, expected, "{name}");
     }
-}
-
-/// The bytes of the counts, by hand, and the number of orders, after whose answers they stand.
-#[rustfmt::skip]
-const COUNTS: [(&str, usize, [u8; 8]); 12] = [
-    ("k1-opening", 0, [0; 8]),
-    ("k10-width-8", 1, [0; 8]),
-    ("paper-run", 6, [5, 0, 0, 0, 0, 0, 0, 0]),
-    ("orders-256", 256, [0, 1, 0, 0, 0, 0, 0, 0]),
-    ("hands-of-each-kind", 16, [4, 0, 4, 0, 4, 0, 4, 0]),
-    ("counts-that-differ", 17, [4, 0, 3, 0, 2, 0, 1, 0]),
-    ("counts-of-refused-orders-alone", 5, [0; 8]),
-    ("counts-of-what-is-undone", 5, [1, 0, 2, 0, 1, 0, 1, 0]),
-    ("counts-256-of-hand-3", 256, [0, 0, 0, 0, 0, 0, 0, 1]),
-    ("counts-255-and-1", 256, [0, 0, 1, 0, 255, 0, 0, 0]),
-    ("counts-of-64", 256, [64, 0, 64, 0, 64, 0, 64, 0]),
-    ("counts-255-accepted", 256, [0, 0, 255, 0, 0, 0, 0, 0]),
-];
-
-#[test]
-fn the_counts_of_the_examples() {
-    for (name, orders, expected) in COUNTS {
-        let space = fs::read(kit::folder().join(format!("answers/{name}.bin"))).expect(name);
-        let counts = &space[72 * (orders + 1)..];
-        assert_eq!(counts[..8], expected, "{name}");
-        assert!(counts[8..].iter().all(|&byte| byte == 165), "{name}");
-    }
-}
-
-/// Of three vectors that differ in hands alone, the answers are the same.
-#[test]
-fn the_examples_by_other_hands() {
-    let answers = |name: &str| {
-        let space = fs::read(kit::folder().join(format!("answers/hands-by-{name}.bin")));
-        let mut space = space.expect(name);
-        space.truncate(72 * 15);
-        space
-    };
-    assert_eq!(answers("hand-0"), answers("hand-3"));
-    assert_eq!(answers("hand-0"), answers("others"));
 }
 
 /// Every wrong engine can be made, and the file of faults has a line for each and no other. What

@@ -8,17 +8,10 @@
 //! The answer is JSON: the values left in each column, or, after a finish, those of the full set. A
 //! refused order has status 422, and the body says which and why. The first line printed is the address.
 //!
-//! Where several share the session, hand=NUMBER stands before the orders of a hand, and the answer ends with how many
-//! orders each hand has given, hand 0 first. This host believes what a page says of the hands, as it believes the list;
-//! one that bills by them keeps the list itself, and takes the hand from who is logged in.
-//!
-//!     curl 'http://127.0.0.1:8080/?mark&hand=1&narrow=2:0&finish'
-//!     {"status":"open","finish":"found","left":[[0], [0], [0]],"accepted":[1, 2, 0, 0]}
-//!
 //! A finish that is "stopped" isn't decided yet: it took as many tries as a page waits for. The page says
 //! so, and asks again with a larger limit, finish=TRIES, if the buyer wants to wait.
 
-use fitting::{Book, Hand, Order, OrderList, Refusal, Space, Values};
+use fitting::{Book, Order, OrderList, Refusal, Space, Values};
 use std::io::{self, BufRead, BufReader, Read, Write};
 use std::net::{TcpListener, TcpStream};
 use std::num::NonZeroU16;
@@ -35,7 +28,6 @@ const WRONG: &str = "400 Bad Request";
 const REFUSED: &str = "422 Unprocessable Content";
 const ORDERS: &str =
     "an order is narrow=COLUMN:VALUE,VALUE or mark or back=MARK or finish or finish=TRIES, 1 to 65535";
-const HANDS: &str = "a hand is hand=NUMBER, 0 to 3";
 
 /// A status and a body.
 type Reply = (&'static str, String);
@@ -63,8 +55,8 @@ fn serve(listener: &TcpListener, book: Book) {
     for stream in listener.incoming().flatten() {
         // A buyer who has gone away is no concern of the next one.
         let _ = reply(stream, |line| {
-            let by_hand = fill(&mut list, line)?;
-            left(book, &list, by_hand, &mut space)
+            fill(&mut list, line)?;
+            left(book, &list, &mut space)
         });
     }
 }
@@ -85,8 +77,8 @@ fn reply(stream: TcpStream, click: impl FnOnce(&str) -> Result<String, Reply>) -
     )
 }
 
-/// The list that a request line asks for, and whether it names a hand.
-fn fill(list: &mut OrderList, line: &str) -> Result<bool, Reply> {
+/// The list that a request line asks for.
+fn fill(list: &mut OrderList, line: &str) -> Result<(), Reply> {
     let (method, target) = line.split_once(' ').unwrap_or((line, ""));
     // A line that was too long has lost its end.
     let target = target.strip_suffix(" HTTP/1.1");
@@ -100,20 +92,11 @@ fn fill(list: &mut OrderList, line: &str) -> Result<bool, Reply> {
     // A form in a browser writes ':' and ',' so.
     let query = query.replace("%3A", ":").replace("%2C", ",");
     list.clear();
-    let mut hand = None;
     for word in query.split('&').filter(|word| !word.is_empty()) {
-        if let Some(number) = word.strip_prefix("hand=") {
-            hand = Some(by(number).ok_or_else(|| wrong(WRONG, HANDS))?);
-            continue;
-        }
-        let added = list.push_by(hand.unwrap_or_default(), order(word)?);
+        let added = list.push(order(word)?);
         added.map_err(|full| wrong(REFUSED, Refusal::from(full)))?;
     }
-    Ok(hand.is_some())
-}
-
-fn by(number: &str) -> Option<Hand> {
-    Hand::new(number.parse().ok()?)
+    Ok(())
 }
 
 fn order(word: &str) -> Result<Order, Reply> {
@@ -137,8 +120,8 @@ fn order(word: &str) -> Result<Order, Reply> {
     })
 }
 
-/// Runs the list over the book: what is left, as JSON; where hands are named, how many orders each has given too.
-fn left(book: Book, list: &OrderList, by_hand: bool, space: &mut Space) -> Result<String, Reply> {
+/// Runs the list over the book: what is left, as JSON.
+fn left(book: Book, list: &OrderList, space: &mut Space) -> Result<String, Reply> {
     let answers = book.run(list, space);
     if let Some((number, refusal)) = answers.refused().next() {
         return Err(wrong(REFUSED, format!("order {number}: {refusal}")));
@@ -148,10 +131,8 @@ fn left(book: Book, list: &OrderList, by_hand: bool, space: &mut Space) -> Resul
     let finish = last.outcome().map(|outcome| format!(r#""{outcome}""#));
     let finish = finish.unwrap_or_else(|| "null".into());
     let left: Vec<Vec<u8>> = last.domains().map(|left| left.iter().collect()).collect();
-    let counts = by_hand.then(|| format!(r#","accepted":{:?}"#, answers.counts()));
-    let counts = counts.unwrap_or_default();
     Ok(format!(
-        r#"{{"status":"{status}","finish":{finish},"left":{left:?}{counts}}}"#
+        r#"{{"status":"{status}","finish":{finish},"left":{left:?}}}"#
     ))
 }
 

@@ -1,23 +1,21 @@
 //! Runs orders over a book file and prints a line for each answer:
 //! `cargo run --release -p fitting --example run -- ../books/harbour.bin mark narrow 2 1 finish back 1`.
-//! The words `hand 1` say that hand 1 gives the orders after them, up to the next such words; a last line then has
-//! the number of accepted orders of each hand.
 //! The exit status is 0 if the run is accepted, 1 if it is not, 2 if the words can't be read.
 
-use fitting::{Hand, Order, OrderList, Outcome, Refusal, Space, Values};
+use fitting::{Order, OrderList, Outcome, Refusal, Space, Values};
 use std::process::ExitCode;
 use std::{env, error::Error, fs};
 
 fn main() -> ExitCode {
     let mut words = env::args().skip(1);
-    let (Some(file), Some((orders, by_hand))) = (words.next(), orders(words)) else {
+    let (Some(file), Some(orders)) = (words.next(), orders(words)) else {
         eprintln!(
             "name a book file, then orders: narrow COLUMN MASK, mark, back MARK, finish, \
-             finish-within TRIES; and before those of a hand: hand NUMBER"
+             finish-within TRIES"
         );
         return ExitCode::from(2);
     };
-    match lines(&file, orders, by_hand) {
+    match lines(&file, orders) {
         Ok(lines) => {
             print!("{lines}");
             ExitCode::SUCCESS
@@ -29,12 +27,11 @@ fn main() -> ExitCode {
     }
 }
 
-/// The orders, each with its hand, and whether a hand is named.
-fn orders(mut words: impl Iterator<Item = String>) -> Option<(Vec<(Hand, Order)>, bool)> {
-    let (mut hand, mut orders) = (None, Vec::new());
+fn orders(mut words: impl Iterator<Item = String>) -> Option<Vec<Order>> {
+    let mut orders = Vec::new();
     while let Some(word) = words.next() {
         let mut number = || words.next()?.parse().ok();
-        let order = match word.as_str() {
+        orders.push(match word.as_str() {
             "narrow" => Order::Narrow {
                 column: u8::try_from(number()?).ok()?,
                 values: Values::from_mask(number()?),
@@ -47,25 +44,19 @@ fn orders(mut words: impl Iterator<Item = String>) -> Option<(Vec<(Hand, Order)>
             "finish-within" => Order::FinishWithin {
                 limit: u16::try_from(number()?).ok()?.try_into().ok()?,
             },
-            "hand" => {
-                hand = Some(u8::try_from(number()?).ok()?.try_into().ok()?);
-                continue;
-            }
             _ => return None,
-        };
-        orders.push((hand.unwrap_or_default(), order));
+        });
     }
-    Some((orders, hand.is_some()))
+    Some(orders)
 }
 
-fn lines(file: &str, orders: Vec<(Hand, Order)>, by_hand: bool) -> Result<String, Box<dyn Error>> {
+fn lines(file: &str, orders: Vec<Order>) -> Result<String, Box<dyn Error>> {
     let bytes = fs::read(file).map_err(|error| format!("{file}: {error}"))?;
     let book = fitting::check(&bytes)?;
-    let list = OrderList::of_by(orders).map_err(Refusal::from)?;
+    let list = OrderList::of(orders).map_err(Refusal::from)?;
     let mut space = Space::new();
-    let answers = book.run(&list, &mut space);
     let mut lines = String::new();
-    for (i, answer) in answers.iter().enumerate() {
+    for (i, answer) in book.run(&list, &mut space).iter().enumerate() {
         let what = match (answer.refusal(), answer.outcome()) {
             (Some(refusal), _) => refusal.to_string(),
             (None, Some(Outcome::Found)) => "found".to_string(),
@@ -77,10 +68,6 @@ fn lines(file: &str, orders: Vec<(Hand, Order)>, by_hand: bool) -> Result<String
         };
         let domains = answer.domains().map(|left| format!("{:b}", left.mask()));
         lines += &format!("{i}: {what}: {}\n", domains.collect::<Vec<_>>().join(" "));
-    }
-    if by_hand {
-        let counts = answers.counts().map(|count| count.to_string());
-        lines += &format!("accepted by hand: {}\n", counts.join(" "));
     }
     Ok(lines)
 }

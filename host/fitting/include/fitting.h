@@ -35,18 +35,14 @@ uint64_t fitting_check(const uint8_t *book, size_t book_len);
 
 /*
  * Runs a list of orders over a book. Accepted: the number of accepted orders. Refused: as the book is,
- * or 10 (the orders' length), or 11 (the answers' length; the place is the length needed, FITTING_SPACE).
+ * or 10 (the orders' length), or 11 (the answers' length; the place is the length needed).
  *
  * An order, at most FITTING_MOST_ORDERS of them:
  *
- *      byte 0   byte 1     2      3      4 to 7
- *     +-------+----------+------+------+--------------------------+     1 narrow: column, mask of the values
- *     | kind  | argument | hand | zero | mask or limit, low first |       that may stay; 2 mark; 3 back: mark;
- *     +-------+----------+------+------+--------------------------+       4 finish: zero, limit of its tries
- *
- * The hand says who gave the order, 0 to 3, where several share a session; which number is whose is yours to
- * say. It changes no answer. One above 3 is refused with 25, as a byte is that must be zero and isn't: byte 3,
- * and those that the kind makes no use of. Any other kind is refused with 20, whatever its hand.
+ *      byte 0   byte 1     2, 3   4 to 7
+ *     +-------+----------+------+--------------------------+     1 narrow: column, mask of the values that
+ *     | kind  | argument | zero | mask or limit, low first |       may stay; 2 mark; 3 back: mark; 4 finish:
+ *     +-------+----------+------+--------------------------+       zero, limit of its tries
  *
  * An answer; the first is the opening, then comes one for each order:
  *
@@ -70,20 +66,8 @@ uint64_t fitting_check(const uint8_t *book, size_t book_len);
  * columns are open. Status and finish don't go by it. After a finish it is said of the session, as the
  * status is, and not of the full set.
  *
- * After the last answer come the counts, one for each hand: how many of the orders that it gave were accepted.
- *
- *      byte 0, 1   2, 3     4, 5     6, 7
- *     +----------+--------+--------+--------+
- *     | hand 0   | hand 1 | hand 2 | hand 3 |     each low first; their sum is the number that the call gives
- *     +----------+--------+--------+--------+
- *
- * They are of the whole list, so bill by those of a session's last run.
- *
- * A refused run writes nothing, an accepted one only its answers and counts. The answers must not overlap the
- * book or the orders.
- *
- * Programs of before there were hands: their orders have 0 in byte 2 and go on as hand 0's. A run needs 8 bytes
- * more than it did, and is refused with 11 without them: compile with this FITTING_SPACE.
+ * A refused run writes nothing, an accepted one only its answers. The answers must not overlap the book
+ * or the orders.
  */
 uint64_t fitting_run(const uint8_t *book, size_t book_len, const uint8_t *orders, size_t orders_len,
                      uint8_t *answers, size_t answers_len);
@@ -92,17 +76,8 @@ uint64_t fitting_run(const uint8_t *book, size_t book_len, const uint8_t *orders
 #define FITTING_REFUSAL(number) ((uint64_t)(number) / 65536)
 #define FITTING_PLACE(number) ((uint64_t)(number) % 65536)
 
-/* The bytes that the answers to so many orders need, and the counts after them. */
-#define FITTING_SPACE(orders) (FITTING_COUNTS(orders) + 2 * FITTING_HANDS)
-
-/* Where the counts stand after the answers to so many orders, and the count of a hand there. */
-#define FITTING_COUNTS(orders) (72 * ((size_t)(orders) + 1))
-#define FITTING_COUNT(answers, orders, hand) \
-    ((answers)[FITTING_COUNTS(orders) + 2 * (size_t)(hand)] + \
-     256 * (answers)[FITTING_COUNTS(orders) + 2 * (size_t)(hand) + 1])
-
-/* The hands are those below this. */
-#define FITTING_HANDS 4
+/* The bytes that the answers to so many orders need. */
+#define FITTING_SPACE(orders) (72 * ((size_t)(orders) + 1))
 
 /* What is added to the width byte of a forbidden sheet. */
 #define FITTING_FORBIDDEN 128

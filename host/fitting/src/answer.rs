@@ -1,16 +1,12 @@
-//! The answers of a run, read as they lie in the space, and the counts after them.
+//! The answers of a run, read as they lie in the space.
 
-use crate::space::counts_at;
-use crate::{Hand, OrderRefusal, Values};
+use crate::{OrderRefusal, Values};
 use core::fmt;
 use core::iter::{repeat_n, Map, RepeatN, Zip};
 use core::slice;
 
 /// The bytes of an answer.
 pub(crate) const ANSWER: usize = 72;
-/// The bytes of the counts.
-pub(crate) const COUNTS: usize = Hand::ALL.len() * COUNT;
-const COUNT: usize = 2;
 const TRIES: usize = 6;
 const DOMAINS: usize = 8;
 const DOMAIN: usize = 4;
@@ -19,11 +15,9 @@ const DOMAIN: usize = 4;
 pub type AnswerIter<'a> =
     Map<Zip<slice::Iter<'a, [u8; ANSWER]>, RepeatN<u8>>, fn((&'a [u8; ANSWER], u8)) -> Answer<'a>>;
 
-/// The answers of an accepted run: the opening, then one for each order, and how many orders of each hand were
-/// accepted.
+/// The answers of an accepted run: the opening, then one for each order.
 ///
-/// It is a view of the space that the run has written, small enough to be copied. Two are equal where all that they
-/// say is, the counts too; where hands are of no account, compare what [`iter`](Self::iter) gives.
+/// It is a view of the space that the run has written, small enough to be copied.
 ///
 /// ```
 /// # let bytes = conformance::write(&conformance::harbour());
@@ -48,23 +42,18 @@ pub type AnswerIter<'a> =
 #[derive(Clone, Copy, PartialEq, Eq, Hash)]
 pub struct Answers<'a> {
     parts: &'a [[u8; ANSWER]],
-    counts: [u16; Hand::ALL.len()],
-    accepted: u16,
     columns: u8,
+    accepted: usize,
 }
 
 impl<'a> Answers<'a> {
     /// The answers to so many orders in a space that an accepted run has written.
-    pub(crate) fn written(space: &'a [u8], orders: usize, columns: u8, accepted: u16) -> Self {
-        let cut = space.split_at_checked(counts_at(orders));
-        let (answers, after) = cut.unwrap_or((space, &[]));
-        let counts = after.as_chunks::<COUNT>().0;
-        let count = |hand: Hand| counts.get(usize::from(hand.number()));
+    pub(crate) fn written(space: &'a [u8], orders: usize, columns: u8, accepted: usize) -> Self {
+        let (parts, _) = space.as_chunks();
         Self {
-            parts: answers.as_chunks().0,
-            counts: Hand::ALL.map(|hand| count(hand).map_or(0, |&it| u16::from_le_bytes(it))),
-            accepted,
+            parts: parts.get(..=orders).unwrap_or(parts),
             columns,
+            accepted,
         }
     }
 
@@ -83,35 +72,9 @@ impl<'a> Answers<'a> {
         (number < self.parts.len()).then(|| self.numbered(number))
     }
 
-    /// How many orders of the run were accepted, whoever gave them: the sum of the [`counts`](Self::counts).
+    /// How many orders of the run were accepted.
     pub fn accepted(&self) -> usize {
-        self.accepted.into()
-    }
-
-    /// How many orders that this hand gave were accepted.
-    ///
-    /// ```
-    /// # let bytes = conformance::write(&conformance::harbour());
-    /// # let book = fitting::check(&bytes)?;
-    /// # let mut space = fitting::Space::new();
-    /// use fitting::{Hand, Order, OrderList};
-    ///
-    /// const DEALER: Hand = Hand::ALL[1];
-    /// let mut list = OrderList::new();
-    /// list.mark()?.push_by(DEALER, Order::Finish)?.back(1)?;
-    /// list.push_by(DEALER, Order::Back { mark: 1 })?; // it is refused: that mark is gone
-    /// let answers = book.run(&list, &mut space);
-    /// assert_eq!(answers.accepted_by(DEALER), 1);
-    /// assert_eq!((answers.counts(), answers.accepted()), ([2, 1, 0, 0], 3));
-    /// # Ok::<(), fitting::Refusal>(())
-    /// ```
-    pub fn accepted_by(&self, hand: Hand) -> u16 {
-        self.counts[usize::from(hand.number())]
-    }
-
-    /// How many orders of each hand were accepted, hand 0 first: the four counts after the last answer.
-    pub fn counts(&self) -> [u16; 4] {
-        self.counts
+        self.accepted
     }
 
     /// The refused orders: the number of each, counted from 1, and why.
@@ -138,11 +101,7 @@ impl<'a> Answers<'a> {
 
 impl fmt::Debug for Answers<'_> {
     fn fmt(&self, f: &mut fmt::Formatter<'_>) -> fmt::Result {
-        let answers = fmt::from_fn(|f| f.debug_list().entries(self).finish());
-        f.debug_struct("Answers")
-            .field("answers", &answers)
-            .field("counts", &self.counts)
-            .finish()
+        f.debug_list().entries(self).finish()
     }
 }
 

@@ -46,7 +46,7 @@ pub fn check(book: &[u8]) -> Result<Book<'_>, Refusal> {
 /// assert_eq!(answers.accepted(), 2);
 ///
 /// let refusal = fitting::run(&book, &list, &mut [0; 99]).unwrap_err();
-/// assert_eq!(refusal, Refusal::Space { needed: 224 });
+/// assert_eq!(refusal, Refusal::Space { needed: 216 });
 /// assert_eq!(fitting::run(b"no book", &list, &mut space), Err(Refusal::Length));
 /// # Ok::<(), Refusal>(())
 /// ```
@@ -55,7 +55,7 @@ pub fn run<'a>(book: &[u8], list: &OrderList, space: &'a mut [u8]) -> Result<Ans
     match Refusal::read(number, book) {
         None => {
             let columns = Book::accepted(book).columns();
-            let accepted = number as u16;
+            let accepted = number as usize;
             Ok(Answers::written(space, list.len(), columns, accepted))
         }
         Some(refusal) => Err(refusal),

@@ -15,8 +15,6 @@ mod field;
 #[forbid(unsafe_code)]
 mod field_name;
 #[forbid(unsafe_code)]
-mod hand;
-#[forbid(unsafe_code)]
 mod layout;
 mod library;
 #[forbid(unsafe_code)]
@@ -40,7 +38,6 @@ pub use calls::{check, run};
 pub use cell::Cell;
 pub use field::Field;
 pub use field_name::FieldName;
-pub use hand::Hand;
 pub use library::{check_number, run_number};
 pub use list::{Full, OrderIter, OrderList};
 pub use order::{Order, OrderRefusal};

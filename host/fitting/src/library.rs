@@ -31,16 +31,14 @@ pub fn check_number(book: &[u8]) -> u64 {
 
 /// Runs a list of orders over a book, both as bytes, and gives the library's own number: refusal ×
 /// 65,536 + place, or, accepted, the number of accepted orders. Answer i is written into bytes 72 × i
-/// to 72 × i + 71 of the space, and after the last one four counts of 16 bits, the accepted orders of each hand.
+/// to 72 × i + 71 of the space.
 ///
 /// ```
 /// # let book = conformance::write(&conformance::harbour());
-/// let mut space = [9; 155];
-/// let mark_by_hand_2 = [2, 0, 2, 0, 0, 0, 0, 0];
-/// assert_eq!(fitting::run_number(&book, &mark_by_hand_2, &mut space), 1);
-/// assert_eq!(space[72..77], [0, 1, 1, 0, 0]);
-/// assert_eq!(space[144..152], [0, 0, 0, 0, 1, 0, 0, 0]);
-/// assert_eq!(space[152..], [9, 9, 9]);
+/// let mut space = [9; 75];
+/// assert_eq!(fitting::run_number(&book, &[], &mut space), 0);
+/// assert_eq!(space[..5], [0, 1, 0, 0, 0]);
+/// assert_eq!(space[72..], [9, 9, 9]);
 /// assert_eq!(fitting::run_number(&book, &[1, 2, 3], &mut space), 10 * 65_536);
 /// ```
 pub fn run_number(book: &[u8], orders: &[u8], answers: &mut [u8]) -> u64 {

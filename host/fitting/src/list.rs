@@ -1,6 +1,6 @@
 //! Lists of orders that are never too long.
 
-use crate::{Hand, Order, Refusal, Values};
+use crate::{Order, Refusal, Values};
 use core::error::Error;
 use core::fmt;
 use core::hash::{Hash, Hasher};
@@ -14,13 +14,10 @@ pub type OrderIter<'a> = Map<slice::Iter<'a, [u8; 8]>, fn(&'a [u8; 8]) -> Order>
 /// A list of orders: whole ones, and [`MOST`](Self::MOST) at most, so no run refuses its length.
 ///
 /// Its bytes are inside, 2,048 of them, and adding an order allocates nothing. Each adding function
-/// gives the list back, or [`Full`].
-///
-/// The list keeps the hand of every order. What takes or gives none speaks of hand 0, or leaves the hand out; its twin
-/// whose name ends in `_by` has it. Two lists that differ in a hand are not equal.
+/// gives the list back, or [`Full`]:
 ///
 /// ```
-/// use fitting::{Hand, Order, OrderList, Refusal, Values};
+/// use fitting::{Order, OrderList, Refusal, Values};
 ///
 /// let mut list = OrderList::new();
 /// list.mark()?.narrow(2, Values::of([0])?)?.finish()?;
@@ -36,10 +33,6 @@ pub type OrderIter<'a> = Map<slice::Iter<'a, [u8; 8]>, fn(&'a [u8; 8]) -> Order>
 /// // Its bytes can be kept, and read again.
 /// assert_eq!(OrderList::from_bytes(list.as_bytes())?, list);
 /// assert_eq!(OrderList::from_bytes(&[2, 0, 0]), Err(Refusal::Orders));
-///
-/// // Hand 1 clicks too.
-/// list.push_by(Hand::ALL[1], Order::Finish)?;
-/// assert!(list.iter_by().map(|(hand, _)| hand.number()).eq([0, 0, 0, 1]));
 /// # Ok::<(), Box<dyn std::error::Error>>(())
 /// ```
 #[derive(Clone)]
@@ -61,25 +54,11 @@ impl OrderList {
         }
     }
 
-    /// These orders, given by hand 0.
+    /// These orders.
     pub fn of(orders: impl IntoIterator<Item = Order>) -> Result<Self, Full> {
-        Self::of_by(orders.into_iter().map(|order| (Hand::default(), order)))
-    }
-
-    /// These orders, each given by the hand before it. Of another list it takes all that
-    /// [`iter_by`](Self::iter_by) gives, or some, and no hand is lost:
-    ///
-    /// ```
-    /// # use fitting::{Hand, Order, OrderList};
-    /// let list = OrderList::of_by(Hand::ALL.map(|hand| (hand, Order::Mark)))?;
-    /// assert_eq!(OrderList::of_by(list.iter_by())?, list);
-    /// assert_ne!(OrderList::of(&list)?, list); // four marks, all by hand 0
-    /// # Ok::<(), fitting::Full>(())
-    /// ```
-    pub fn of_by(orders: impl IntoIterator<Item = (Hand, Order)>) -> Result<Self, Full> {
         let mut list = Self::new();
-        for (hand, order) in orders {
-            list.push_by(hand, order)?;
+        for order in orders {
+            list.push(order)?;
         }
         Ok(list)
     }
@@ -98,16 +77,10 @@ impl OrderList {
         self.orders().as_flattened()
     }
 
-    /// Adds an order at the end, given by hand 0. A list that is full stays as it was.
+    /// Adds an order at the end. A list that is full stays as it was.
     pub fn push(&mut self, order: Order) -> Result<&mut Self, Full> {
-        self.push_by(Hand::default(), order)
-    }
-
-    /// Adds an order at the end, given by this hand; [raw bytes](Order::Raw) stay as they come, whatever the hand. A
-    /// list that is full stays as it was.
-    pub fn push_by(&mut self, hand: Hand, order: Order) -> Result<&mut Self, Full> {
         let place = self.orders.get_mut(self.count).ok_or(Full)?;
-        *place = order.bytes_by(hand);
+        *place = order.bytes();
         self.count += 1;
         Ok(self)
     }
@@ -137,16 +110,11 @@ impl OrderList {
         self.push(Order::FinishWithin { limit })
     }
 
-    /// Takes the last order away, whoever gave it.
+    /// Takes the last order away.
     pub fn pop(&mut self) -> Option<Order> {
-        self.pop_by().map(|(_, order)| order)
-    }
-
-    /// Takes the last order away, and says who gave it: what [`push_by`](Self::push_by) needs to add it again.
-    pub fn pop_by(&mut self) -> Option<(Hand, Order)> {
-        let last = self.iter_by().next_back()?;
+        let last = *self.orders().last()?;
         self.count -= 1;
-        Some(last)
+        Some(last.into())
     }
 
     /// Keeps the first so many orders; a list that has no more stays as it was.
@@ -169,19 +137,9 @@ impl OrderList {
         self.count == 0
     }
 
-    /// The orders in turn, whoever gave them.
+    /// The orders in turn.
     pub fn iter(&self) -> OrderIter<'_> {
         self.orders().iter().map(|&bytes| bytes.into())
-    }
-
-    /// The orders in turn, each with the hand that gave it. Where byte 2 is above 3 this is hand 0 with the
-    /// [raw bytes](Order::Raw); no run accepts such an order.
-    pub fn iter_by(
-        &self,
-    ) -> impl ExactSizeIterator<Item = (Hand, Order)> + DoubleEndedIterator + Clone + '_ {
-        let hand = |bytes: [u8; 8]| Hand::new(bytes[2]).unwrap_or_default();
-        let orders = self.orders().iter();
-        orders.map(move |&bytes| (hand(bytes), bytes.into()))
     }
 
     fn orders(&self) -> &[[u8; 8]] {
@@ -220,16 +178,7 @@ impl<'a> IntoIterator for &'a OrderList {
 
 impl fmt::Debug for OrderList {
     fn fmt(&self, f: &mut fmt::Formatter<'_>) -> fmt::Result {
-        let orders = self.iter_by().map(|(hand, order)| {
-            fmt::from_fn(move |f| {
-                fmt::Debug::fmt(&order, f)?;
-                match hand.number() {
-                    0 => Ok(()),
-                    number => write!(f, " by hand {number}"),
-                }
-            })
-        });
-        f.debug_list().entries(orders).finish()
+        f.debug_list().entries(self).finish()
     }
 }
 

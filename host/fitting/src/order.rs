@@ -1,15 +1,14 @@
 //! The orders of a list, and why one is refused.
 
-use crate::{Hand, Values};
+use crate::Values;
 use core::error::Error;
 use core::fmt;
 use core::num::NonZeroU16;
 
-/// One order of a list: what it asks for. Columns count from 0, marks from 1. Whose hand gave it stands beside it, as a
-/// [`Hand`], since it changes nothing of what an order does.
+/// One order of a list. Columns count from 0, marks from 1.
 ///
 /// ```
-/// use fitting::{Hand, Order, Values};
+/// use fitting::{Order, Values};
 ///
 /// let order = Order::Narrow { column: 2, values: Values::of([0, 2])? };
 /// assert_eq!(order.bytes(), [1, 2, 0, 0, 5, 0, 0, 0]);
@@ -19,11 +18,6 @@ use core::num::NonZeroU16;
 /// // A finish for a page that can wait for 1,000 tries.
 /// let limit = 1_000_u16.try_into()?;
 /// assert_eq!(Order::FinishWithin { limit }.bytes(), [4, 0, 0, 0, 232, 3, 0, 0]);
-///
-/// // The same by another hand.
-/// let bytes = order.bytes_by(Hand::try_from(3)?);
-/// assert_eq!(bytes, [1, 2, 3, 0, 5, 0, 0, 0]);
-/// assert_eq!((Hand::new(bytes[2]), Order::from(bytes)), (Some(Hand::ALL[3]), order));
 /// # Ok::<(), Box<dyn std::error::Error>>(())
 /// ```
 #[derive(Clone, Copy, Debug, PartialEq, Eq, Hash)]
@@ -52,8 +46,7 @@ pub enum Order {
         /// The most tries that are made.
         limit: NonZeroU16,
     },
-    /// Eight bytes as they come, the hand in byte 2 among them. Where they are one of the others, they read back as
-    /// that one.
+    /// Eight bytes as they come. Where they are one of the others, they read back as that one.
     Raw([u8; 8]),
 }
 
@@ -61,26 +54,19 @@ impl Order {
     /// The largest limit of a finish, and that of one that names none.
     pub const MOST_TRIES: NonZeroU16 = NonZeroU16::MAX;
 
-    /// The order as the library reads it, given by hand 0.
+    /// The order as the library reads it.
     pub const fn bytes(self) -> [u8; 8] {
-        self.bytes_by(Hand::ALL[0])
-    }
-
-    /// The order as the library reads it, given by this hand. Raw bytes stay as they come, whatever the hand: they
-    /// have a byte 2 of their own.
-    pub const fn bytes_by(self, hand: Hand) -> [u8; 8] {
-        let hand = hand.number();
         match self {
             Self::Narrow { column, values } => {
                 let [a, b, c, d] = values.mask().to_le_bytes();
-                [1, column, hand, 0, a, b, c, d]
+                [1, column, 0, 0, a, b, c, d]
             }
-            Self::Mark => [2, 0, hand, 0, 0, 0, 0, 0],
-            Self::Back { mark } => [3, mark, hand, 0, 0, 0, 0, 0],
-            Self::Finish => [4, 0, hand, 0, 0, 0, 0, 0],
+            Self::Mark => [2, 0, 0, 0, 0, 0, 0, 0],
+            Self::Back { mark } => [3, mark, 0, 0, 0, 0, 0, 0],
+            Self::Finish => [4, 0, 0, 0, 0, 0, 0, 0],
             Self::FinishWithin { limit } => {
                 let [low, high] = limit.get().to_le_bytes();
-                [4, 0, hand, 0, low, high, 0, 0]
+                [4, 0, 0, 0, low, high, 0, 0]
             }
             Self::Raw(bytes) => bytes,
         }
@@ -88,25 +74,20 @@ impl Order {
 }
 
 impl From<[u8; 8]> for Order {
-    /// Reads what an order asks for, whichever of the four hands gave it: `Hand::new(bytes[2])` says which. With a
-    /// byte 2 above 3 it is [`Raw`](Self::Raw).
     fn from(bytes: [u8; 8]) -> Self {
-        let [kind, argument, hand, rest @ ..] = bytes;
-        match (kind, argument, rest) {
-            _ if Hand::new(hand).is_none() => Self::Raw(bytes),
-            (1, column, [0, mask @ ..]) => Self::Narrow {
+        match bytes {
+            [1, column, 0, 0, mask @ ..] => Self::Narrow {
                 column,
                 values: Values::from_mask(u32::from_le_bytes(mask)),
             },
-            (2, 0, [0, 0, 0, 0, 0]) => Self::Mark,
-            (3, mark, [0, 0, 0, 0, 0]) => Self::Back { mark },
-            (4, 0, [0, low, high, 0, 0]) => {
-                match NonZeroU16::new(u16::from_le_bytes([low, high])) {
-                    Some(limit) => Self::FinishWithin { limit },
-                    None => Self::Finish,
-                }
-            }
-            _ => Self::Raw(bytes),
+            [2, 0, 0, 0, 0, 0, 0, 0] => Self::Mark,
+            [3, mark, 0, 0, 0, 0, 0, 0] => Self::Back { mark },
+            [4, 0, 0, 0, low, high, 0, 0] => match NonZeroU16::new(u16::from_le_bytes([low, high]))
+            {
+                Some(limit) => Self::FinishWithin { limit },
+                None => Self::Finish,
+            },
+            raw => Self::Raw(raw),
         }
     }
 }
@@ -134,7 +115,7 @@ pub enum OrderRefusal {
     Depth,
     /// 24: there is no such mark.
     Mark,
-    /// 25: a byte that must be zero isn't, or the hand is above 3.
+    /// 25: a byte that must be zero isn't.
     Zero,
     /// 27: the limit of a finish is larger than [`Order::MOST_TRIES`].
     Limit,
@@ -173,7 +154,7 @@ impl OrderRefusal {
             Self::Mask => (22, "the mask has a value that the column doesn't have"),
             Self::Depth => (23, "there are 16 marks already"),
             Self::Mark => (24, "there is no such mark"),
-            Self::Zero => (25, "a byte that must be zero isn't, or the hand is above 3"),
+            Self::Zero => (25, "a byte that must be zero isn't"),
             Self::Limit => (27, "the limit of a finish is larger than 65,535"),
             Self::Other { number } => (number, "the order is refused"),
         }

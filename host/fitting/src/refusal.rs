@@ -85,7 +85,7 @@ pub enum Refusal {
     Orders,
     /// 11: the space for the answers is too short.
     Space {
-        /// The bytes that the answers need, and the counts after them.
+        /// The bytes that the answers need.
         needed: u16,
     },
     /// A refusal that has no name here, or that isn't one of the book it was read with. Neither call ever
@@ -223,7 +223,7 @@ impl fmt::Display for Refusal {
                 f,
                 "the orders aren't a multiple of 8 bytes or exceed 2,048 bytes"
             ),
-            Self::Space { needed } => write!(f, "the answers and counts need {needed} bytes"),
+            Self::Space { needed } => write!(f, "the answers need {needed} bytes"),
             Self::Other { place, .. } => write!(f, "place {place}"),
         }
     }

@@ -1,28 +1,22 @@
-//! The space that answers are written into, and the counts after them.
+//! The space that answers are written into.
 
-use crate::answer::{ANSWER, COUNTS};
+use crate::answer::ANSWER;
 use crate::OrderList;
 use core::fmt;
 
-/// How many bytes the answers to so many orders need: one answer more than there are orders, then the counts of
-/// the four hands.
+/// How many bytes the answers to so many orders need: one answer more than there are orders.
 ///
 /// ```
-/// assert_eq!(fitting::space_for(0), 80); // the opening, and the counts
-/// assert_eq!(fitting::space_for(256), 18_512);
+/// assert_eq!(fitting::space_for(0), 72); // the opening
+/// assert_eq!(fitting::space_for(256), 18_504);
 /// ```
 pub const fn space_for(orders: usize) -> usize {
-    counts_at(orders).saturating_add(COUNTS)
-}
-
-/// Where the counts stand after the answers to so many orders.
-pub(crate) const fn counts_at(orders: usize) -> usize {
     orders.saturating_add(1).saturating_mul(ANSWER)
 }
 
-/// Room for the answers to the longest list, so that none is too long for it: 18,512 bytes, inside.
+/// Room for the answers to the longest list, so that none is too long for it: 18,504 bytes, inside.
 ///
-/// One for each thread will do, used for run after run: a run writes its answers and counts, and leaves the rest
+/// One for each thread will do, used for run after run: a run writes its answers and leaves the rest
 /// as it was. A host that wants it off the stack puts it into a `Box`, or into a static.
 #[derive(Clone)]
 pub struct Space {

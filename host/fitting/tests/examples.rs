@@ -97,17 +97,6 @@ fn runs() {
                  2: found: 1 1 1\n\
                  3: found: 1 1 1\n";
     says(&run, limits, lines, 0);
-    let hands = "harbour.bin mark hand 1 narrow 2 1 narrow 2 4 hand 3 finish hand 1 back 1 hand 0";
-    let lines = "0: open, depth 0: 111 11 11\n\
-                 1: open, depth 1: 111 11 11\n\
-                 2: open, depth 1: 11 1 1\n\
-                 3: refusal 22: the mask has a value that the column doesn't have: 11 1 1\n\
-                 4: found: 1 1 1\n\
-                 5: open, depth 0: 111 11 11\n\
-                 accepted by hand: 1 2 0 1\n";
-    says(&run, hands, lines, 0);
-    let none = "0: open, depth 0: 111 11 11\naccepted by hand: 0 0 0 0\n";
-    says(&run, "harbour.bin hand 2", none, 0);
     says(&run, "../README.md", LENGTH, 1);
     says(&run, "nowhere.bin mark", NOWHERE, 1);
     for wrong in [
@@ -117,9 +106,6 @@ fn runs() {
         "harbour.bin finish-within",
         "harbour.bin finish-within 0",
         "harbour.bin finish-within 65536",
-        "harbour.bin hand",
-        "harbour.bin hand 4 mark",
-        "harbour.bin hand mark",
     ] {
         says(&run, wrong, "", 2);
     }
@@ -181,46 +167,11 @@ fn first(compiler: &[&str]) {
     }
 }
 
-/// The example that counts for each hand. A refused order is on nobody's bill.
-fn hands(compiler: &[&str]) {
-    let hands = &compiled("hands", compiler);
-    let bill = |counts: [usize; 4]| {
-        let [buyer, dealer, fitter, nobody] = counts;
-        format!("buyer: {buyer}\ndealer: {dealer}\nfitter: {fitter}\nnobody: {nobody}\n")
-    };
-    let shared = "harbour.bin 0 2 0 1 0 1 1 0 3";
-    let refused = format!("order 3: refusal 22\n{}", bill([1, 1, 0, 0]));
-    says(hands, shared, &refused, 1);
-    says(hands, "harbour.bin", &bill([0; 4]), 0);
-    says(
-        hands,
-        "harbour.bin 2 0 0 3 0 0 2 1 0",
-        &bill([0, 0, 2, 1]),
-        0,
-    );
-    let no_hand = format!("order 1: refusal 25\n{}", bill([0; 4]));
-    says(hands, "harbour.bin 4 2 0", &no_hand, 1);
-    let longest = format!("harbour.bin{}", " 1 2 0".repeat(256));
-    says(hands, &longest, &bill([0, 256, 0, 0]), 0);
-    says(hands, "../README.md", "refusal 1, place 0\n", 1);
-    let too_long = longest + " 1 2 0";
-    for wrong in [
-        "",
-        "nowhere.bin",
-        "harbour.bin 0 2",
-        "harbour.bin 256 2 0",
-        &too_long,
-    ] {
-        says(hands, wrong, "", 2);
-    }
-}
-
 /// The header alone too, as the first thing that a program includes.
 #[test]
 fn examples_in_c() {
     left(&C);
     first(&C);
-    hands(&C);
     compile(&C, &["-fsyntax-only", "-x", "c", "include/fitting.h"]);
 }
 
@@ -230,7 +181,6 @@ fn examples_in_cpp() {
     if Command::new(CPP[0]).arg("--version").output().is_ok() {
         left(&CPP);
         first(&CPP);
-        hands(&CPP);
     } else {
         conformance::show("no c++ here: the header is not tried");
     }
@@ -314,34 +264,6 @@ fn clicks() {
         (&longest, OPENING),
     ] {
         host.answers(target, "200 OK", body);
-    }
-}
-
-/// Where a hand is named, the answer has the counts; else it is as it was.
-#[test]
-fn clicks_by_hand() {
-    let host = Host::start();
-    let left = OPENING.strip_suffix('}').expect("an object");
-    let by_four = "mark&back=1&".repeat(64);
-    let by_four = format!("/?{by_four}hand=3&{by_four}");
-    for (target, counts) in [
-        ("/?hand=0", "[0, 0, 0, 0]"),
-        ("/?mark&hand=1&mark&mark&hand=3&back=1", "[1, 2, 0, 1]"),
-        (
-            "/?hand=2&mark&hand=0&back=1&hand=2&mark&back=1",
-            "[1, 0, 3, 0]",
-        ),
-        (&by_four, "[128, 0, 0, 128]"),
-    ] {
-        host.answers(
-            target,
-            "200 OK",
-            &format!(r#"{left},"accepted":{counts}}}"#),
-        );
-    }
-    for number in ["", "4", "256", "-1", "x"] {
-        let target = format!("/?hand={number}&mark");
-        host.fails(&target, "400 Bad Request", "a hand is hand=NUMBER, 0 to 3");
     }
 }
 

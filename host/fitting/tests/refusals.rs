@@ -9,14 +9,14 @@ fn every_refusal_has_its_name_and_its_sentence() {
     use Refusal::*;
     let length = "the length isn't a multiple of 512 from 512 to 16,896";
     let orders = "the orders aren't a multiple of 8 bytes or exceed 2,048 bytes";
-    let space = "the answers and counts need 18512 bytes";
+    let space = "the answers need 18504 bytes";
     let other = |number, place, words| (Other { number, place }, number, place, words);
     for (refusal, number, place, sentence) in [
         (Length, 1, 0, length),
         (Check { block: 3 }, 2, 3, "the check of block 3 is wrong"),
         (Blocks { needed: 8 }, 4, 8, "the blocks aren't the 8 needed"),
         (Orders, 10, 0, orders),
-        (Space { needed: 18_512 }, 11, 18_512, space),
+        (Space { needed: 18_504 }, 11, 18_504, space),
         other(1, 1, "place 1"),
         other(7, 0, "place 0"),
         other(10, 65_535, "place 65535"),
@@ -99,11 +99,7 @@ fn every_refusal_of_an_order_has_its_name_and_its_sentence() {
         ),
         (23, Depth, "there are 16 marks already"),
         (24, Mark, "there is no such mark"),
-        (
-            25,
-            Zero,
-            "a byte that must be zero isn't, or the hand is above 3",
-        ),
+        (25, Zero, "a byte that must be zero isn't"),
         (27, Limit, "the limit of a finish is larger than 65,535"),
     ];
     for number in 1..=255 {

@@ -21,7 +21,6 @@ fn every_type_goes_anywhere() {
     small::<Cell>();
     small::<Values>();
     small::<Order>();
-    small::<Hand>();
     small::<Answers>();
     small::<Answer>();
     small::<Status>();
@@ -40,11 +39,10 @@ fn sizes() {
     static LIST: OrderList = OrderList::new();
     static SPACE: Space = Space::new();
     assert_eq!(size_of_val(&LIST), 2_048 + size_of::<usize>());
-    assert_eq!(size_of_val(&SPACE), 18_512);
+    assert_eq!(size_of_val(&SPACE), 18_504);
     assert_eq!(size_of::<Book>(), size_of::<&[u8]>());
     assert_eq!(size_of::<Values>(), 4);
     assert_eq!(size_of::<Cell>(), 2);
-    assert_eq!(size_of::<Hand>(), 1);
     assert!(size_of::<Refusal>() <= 16 && size_of::<Answers>() <= 32);
 }
 

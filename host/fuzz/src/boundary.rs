@@ -85,7 +85,7 @@ pub fn run_nulls() -> [u64; 2] {
 pub fn run_one_too_long() -> u64 {
     let book = write(&harbour());
     let orders: Box<[u8]> = MARK.into();
-    let mut answers = vec![0; 3 * 72 + 8];
+    let mut answers = vec![0; 3 * 72];
     // SAFETY: the space and the book are as long as said. The list isn't: see above.
     unsafe {
         fitting_run(

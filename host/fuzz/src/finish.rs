@@ -1,7 +1,7 @@
 //! Finishes whose searches are long get smaller limits before the calls: each ends, but 256 of 65,535 tries in a
 //! large book would take the independent version long.
 
-use conformance::{searches, space_for, with_limit, Order, Seen, NO_KIND};
+use conformance::{finish, searches, space_for, Order, Seen, NO_KIND};
 use reference::{limit_of, search};
 
 /// The rows that the searches of one list may look at, each time they settle.
@@ -28,7 +28,7 @@ pub fn shorten_finishes(book: &[u8], orders: &mut [u8]) -> usize {
         let within = limit.min(left);
         let ended = search(&described, domains, within);
         if ended.is_none() && within < limit {
-            *order = with_limit(*order, within.max(1));
+            *order = finish(within.max(1));
             shortened += 1;
         }
         left -= ended.map_or(within, |(_, tries)| tries);

@@ -15,7 +15,7 @@
 //!        bit 6     a book whose bytes stand there is filled up with zeros to whole blocks
 //!        bit 7     with a `room` below 16, the list is repeated up to 254 to 257 orders
 //!
-//!  a described book (its orders' kinds and hands are brought near the known ones, too)
+//!  a described book (its orders' kinds are brought near the known ones, too)
 //!  +---+---+--------+  then for each of the S sheets
 //!  | C | S | V of C |  +-------+------------+------+------+----------------------+
 //!  +---+---+--------+  | width | columns, a | rows | seed | rows, k bytes each,  |
@@ -26,7 +26,7 @@
 //! ```
 
 use crate::shorten_finishes;
-use conformance::{mend, space_for, write, Book, Random, Sheet, ANY, BLOCK, FORBIDDEN, HANDS};
+use conformance::{mend, space_for, write, Book, Random, Sheet, ANY, BLOCK, FORBIDDEN};
 use reference::Kind;
 
 /// The longest input that a fuzz run makes.
@@ -35,16 +35,9 @@ pub const LONGEST_INPUT: usize = 4_096;
 pub const DESCRIBED: u8 = 1;
 /// Form: the checks are made right.
 pub const MENDED: u8 = 2;
-/// Form: the space is shorter than needed.
-pub const SHORTER: u8 = 2 << 4;
-/// Form: the space is longer than needed.
-pub const LONGER: u8 = 3 << 4;
 
 /// The known kinds of orders, and the number on either side of them.
 const KINDS: u8 = Kind::ALL.len() as u8 + 1;
-
-/// The hands, and the number after them.
-const NEAR_HANDS: u8 = HANDS as u8 + 1;
 
 const WHOLE_BLOCKS: u8 = 1 << 6;
 const REPEATED: u8 = 1 << 7;
@@ -73,10 +66,8 @@ impl Input {
             .collect();
         let mut orders = rest.take(length).to_vec();
         if form & DESCRIBED != 0 {
-            for (byte, end) in [(0, KINDS), (2, NEAR_HANDS)] {
-                let numbers = orders.iter_mut().skip(byte).step_by(8);
-                numbers.for_each(|number| *number %= end);
-            }
+            let kinds = orders.iter_mut().step_by(8);
+            kinds.for_each(|kind| *kind %= KINDS);
         }
         if form & REPEATED != 0 && room < 16 && !orders.is_empty() {
             let most = 8 * (254 + usize::from(room % 4));
@@ -117,9 +108,9 @@ fn spoil(book: &mut [u8], damage: &[(usize, u8)]) {
 
 fn space(form: u8, room: u8, needed: usize) -> usize {
     let by = usize::from(room) + 1;
-    match form & LONGER {
-        SHORTER => needed.saturating_sub(by),
-        LONGER => needed + by,
+    match form >> 4 & 3 {
+        2 => needed.saturating_sub(by),
+        3 => needed + by,
         _ => needed,
     }
 }

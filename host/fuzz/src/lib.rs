@@ -17,6 +17,5 @@ mod seeds;
 pub use boundary::{check_null, run_nulls, run_one_too_long, stack_used};
 pub use compare::{compare, try_bytes};
 pub use finish::shorten_finishes;
-pub use input::{described, described_by_seed, raw, Input};
-pub use input::{DESCRIBED, LONGER, LONGEST_INPUT, MENDED, SHORTER};
+pub use input::{described, described_by_seed, raw, Input, DESCRIBED, LONGEST_INPUT, MENDED};
 pub use seeds::seeds;

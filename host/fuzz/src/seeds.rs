@@ -1,16 +1,15 @@
 //! The first inputs of a fuzz run: the conformance kit, small sweeps, and seeded books and lists.
 
-use crate::{described, described_by_seed, raw, LONGER, LONGEST_INPUT, MENDED, SHORTER};
-use conformance::{back, by, changed, contradicting, finish, harbour, kit, last_four_forbidden};
+use crate::{described, described_by_seed, raw, LONGEST_INPUT, MENDED};
+use conformance::{back, changed, contradicting, finish, harbour, kit, last_four_forbidden};
 use conformance::{narrow, one_forbidden, one_large_column, one_sheet, regular, rising_rows};
-use conformance::{stairs, tiny, tries_of_contradicting, write, Book, Case, Order, Run, Sheet};
-use conformance::{ANY, FINISH, MARK, NO_KIND, WIDTH};
+use conformance::{stairs, tiny};
+use conformance::{tries_of_contradicting, write, Book, Case, Run, Sheet, ANY, FINISH, MARK};
 use std::ops::Range;
 
 /// The first inputs, always the same: the vectors of the conformance kit, sweeps over single bytes, over pairs
 /// of row bytes and over row counts, sheets that are done or nearly, limits of finishes, forbidden sheets and rows
-/// of these that don't rise, hands and their counts, spaces around what is needed, and so many seeded runs and seeded
-/// books, damaged ones among them.
+/// of these that don't rise, and so many seeded runs and seeded books, damaged ones among them.
 pub fn seeds(count: u64) -> Vec<Vec<u8>> {
     let mut seeds = Vec::new();
     for vector in kit::vectors() {
@@ -42,9 +41,6 @@ pub fn seeds(count: u64) -> Vec<Vec<u8>> {
     seeds.extend(large_columns());
     seeds.extend(last_four_counted());
     seeds.extend(rows_that_dont_rise());
-    seeds.extend(hands());
-    seeds.extend(full_counts());
-    seeds.extend(spaces());
     for seed in 0..count {
         let run = Run::new(seed);
         seeds.extend(both(&run.book, &run.orders));
@@ -307,75 +303,6 @@ fn rows_that_dont_rise() -> Vec<Vec<u8>> {
     }
     for value in [0, 1, ANY] {
         seeds.extend(wrong_pairs(&three, 512..524, value));
-    }
-    seeds
-}
-
-/// Orders of each kind, right ones and ones with each other cause, by hands on both sides of 3: one by one after a mark,
-/// and then all hands after sixteen.
-fn hands() -> Vec<Vec<u8>> {
-    let book = write(&harbour());
-    let wrong = |mut order: Order| {
-        order[3] = 1;
-        order
-    };
-    let [narrow_0, back_1] = [narrow(WIDTH, 4), back(1)];
-    let mut seeds = Vec::new();
-    for order in [
-        narrow_0,
-        narrow(3, 0),
-        narrow(WIDTH, 8),
-        wrong(narrow_0),
-        MARK,
-        wrong(MARK),
-        back_1,
-        back(0),
-        wrong(back_1),
-        FINISH,
-        finish(65_536),
-        wrong(FINISH),
-        NO_KIND,
-    ] {
-        for hand in [0, 1, 2, 3, 4, 5, 255] {
-            seeds.extend(both(&book, &[by(1, MARK), by(hand, order)].concat()));
-        }
-        let hands = [4, 5, 6, 7, 8, 16, 32, 64, 128, 252, 255, 3, 2, 1, 0];
-        let all = hands.map(|hand| by(hand, order));
-        seeds.extend(both(&book, &[&[MARK; 16][..], &all].concat().concat()));
-    }
-    seeds
-}
-
-/// The longest lists, all accepted: of one hand, so that its count has two bytes, and of two, one of which has one order.
-fn full_counts() -> Vec<Vec<u8>> {
-    let book = write(&tiny());
-    let mut seeds = Vec::new();
-    for hand in 0..4 {
-        for pair in [[FINISH, FINISH], [MARK, back(1)], [narrow(0, 1), finish(1)]] {
-            let mut orders = pair.map(|order| by(hand, order)).repeat(128);
-            seeds.extend(both(&book, &orders.concat()));
-            let other = &mut orders[usize::from(85 * hand)];
-            *other = by((hand + 1) % 4, *other);
-            seeds.extend(both(&book, &orders.concat()));
-        }
-    }
-    seeds
-}
-
-/// Lists of up to three orders by different hands, with spaces that are short of some byte of the counts, of all of
-/// them and one more, or of the last answer, and with as many bytes to spare.
-fn spaces() -> Vec<Vec<u8>> {
-    let book = write(&harbour());
-    let orders = [by(3, MARK), by(1, FINISH), by(2, back(1))].concat();
-    let mut seeds = Vec::new();
-    for length in 0..=3 {
-        for room in [0, 1, 3, 6, 7, 8, 79] {
-            for form in [SHORTER, LONGER] {
-                let mut seed = raw(form, &book, &orders[..8 * length]);
-                seed[1] = room;
-                seeds.push(seed);
-            }
-        }
     }
     seeds
 }

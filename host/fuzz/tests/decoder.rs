@@ -1,11 +1,10 @@
 //! Any bytes are an input, and the inputs that come of them are of every kind.
 
-use conformance::{by, look_for_done, look_for_forbidden, look_for_hands};
 use conformance::{contradicting, example_orders, finish, harbour, narrow, regular, space_for};
-use conformance::{look_for_steps, look_for_tries, NO_KIND};
+use conformance::{look_for_done, look_for_forbidden, look_for_steps, look_for_tries};
 use conformance::{write, Random, Tally, ANY, FINISH};
 use fuzz::{described, raw, seeds, shorten_finishes, try_bytes};
-use fuzz::{Input, DESCRIBED, LONGER, LONGEST_INPUT, MENDED, SHORTER};
+use fuzz::{Input, DESCRIBED, LONGEST_INPUT, MENDED};
 use reference::{book_refusals, decode, run_refusals};
 
 /// Bytes from chance, most often short.
@@ -110,25 +109,6 @@ fn forbidden_sheets_are_put_in_order() {
     tally.assert_each_above(1_000);
 }
 
-/// Of a described book's orders the hand is 0 to 4, and the kind 0 to 5; any other byte is as it stands.
-#[test]
-fn kinds_and_hands_are_brought_near() {
-    let orders = [[255; 8], by(9, FINISH), by(4, NO_KIND), by(3, narrow(1, 2))];
-    let near = [
-        [3, 255, 0, 255, 255, 255, 255, 255],
-        by(4, FINISH),
-        [2, 0, 4, 0, 0, 0, 0, 0],
-        by(3, narrow(1, 2)),
-    ];
-    let bytes = described(&harbour(), &orders.concat());
-    assert_eq!(Input::read(&bytes).orders, near.concat());
-    let bytes = raw(0, &write(&harbour()), &orders.concat());
-    assert_eq!(Input::read(&bytes).orders, orders.concat());
-    // A list that ends after a kind.
-    let bytes = described(&harbour(), &[255; 9]);
-    assert_eq!(Input::read(&bytes).orders, [&near[0][..], &[3]].concat());
-}
-
 /// "256 orders run, 257 give 10": a short input can have a list as long as that.
 #[test]
 fn the_longest_lists() {
@@ -144,13 +124,12 @@ fn the_longest_lists() {
 #[test]
 fn every_length_of_a_space() {
     for (form, room, expected) in [
-        (0 << 4, 9, 80),
-        (1 << 4, 9, 80),
-        (SHORTER, 0, 79),
-        (SHORTER, 7, 72),
-        (SHORTER, 255, 0),
-        (LONGER, 0, 81),
-        (LONGER, 255, 336),
+        (0 << 4, 9, 72),
+        (1 << 4, 9, 72),
+        (2 << 4, 0, 71),
+        (2 << 4, 255, 0),
+        (3 << 4, 0, 73),
+        (3 << 4, 255, 328),
     ] {
         let input = Input::read(&[DESCRIBED | form, room]);
         assert_eq!(input.space, expected);
@@ -166,21 +145,14 @@ fn long_finishes_get_a_smaller_limit() {
     assert_eq!(orders, example_orders().concat());
     let book = write(&contradicting(&[32; 13], 2));
     let dead = narrow(0, 0);
-    let list = [
-        finish(100),
-        by(3, FINISH),
-        finish(9),
-        finish(65_536),
-        dead,
-        FINISH,
-    ];
+    let list = [finish(100), FINISH, finish(9), finish(65_536), dead, FINISH];
     let mut orders = list.concat();
     assert_eq!(shorten_finishes(&book, &mut orders), 2);
     // Two rows in each of three sheets, and one more.
     let left = (1 << 15) / 7 - 100;
     let shorter = [
         finish(100),
-        by(3, finish(left)),
+        finish(left),
         finish(1),
         finish(65_536),
         dead,
@@ -198,7 +170,6 @@ fn seeded_inputs_agree_and_are_of_every_kind() {
     look_for_done(&mut tally);
     look_for_tries(&mut tally);
     look_for_forbidden(&mut tally);
-    look_for_hands(&mut tally);
     for (refusal, _) in book_refusals() {
         tally.add(&format!("books, refusal {refusal}"), 0);
     }

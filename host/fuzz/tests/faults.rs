@@ -11,7 +11,7 @@ use std::thread;
 #[test]
 fn null_pointers_of_no_bytes() {
     assert_eq!(check_null(), refused(1, 0));
-    assert_eq!(run_nulls(), [refused(1, 0), refused(11, 80)]);
+    assert_eq!(run_nulls(), [refused(1, 0), refused(11, 72)]);
 }
 
 /// All three parts at any offset from where a piece of the heap begins, whatever lies around them.
@@ -20,7 +20,7 @@ fn unaligned_pointers() {
     let largest = write(&regular(16, 32, 8, 508, 4));
     let runs = (0..200).map(Run::new);
     let mut inputs: Vec<_> = runs.map(|run| (run.book, run.orders, run.space)).collect();
-    inputs.extend([(write(&harbour()), vec![], 80), (largest, vec![], 80)]);
+    inputs.extend([(write(&harbour()), vec![], 72), (largest, vec![], 72)]);
     let offsets: Vec<usize> = (0..64).collect();
     for (book, orders, space) in &inputs {
         compare_run(&LIBRARY, &offsets, book, orders, *space).unwrap();

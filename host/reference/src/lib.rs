@@ -1,5 +1,5 @@
 //! An independent version of the two calls, the check of a book and the run of a list, written from
-//! document 01, from document 02's requests that have landed (W1, W2, W3, W4, W6, W7) and the readings of both in
+//! document 01, from document 02's requests that have landed (W1, W2, W3, W4, W6) and the readings of both in
 //! `docs/DECISIONS.md`, and from nothing else.
 //!
 //! It is meant to be read beside these documents: each piece stands under the sentence that it
@@ -27,9 +27,9 @@ pub use cells::{is_short, lies_in, written_out, ANY};
 pub use choices::{allows, turned};
 pub use closure::closure;
 pub use finish::search;
-pub use orders::{all_values, hand_of, limit_of, Kind, Order, HANDS, MOST_TRIES};
+pub use orders::{all_values, limit_of, Kind, Order, MOST_TRIES};
 pub use rows::{fallen_rows, row_faults, RowFault};
-pub use run::{counts_start, printed, run, run_refusals, space_for};
+pub use run::{printed, run, run_refusals, space_for};
 pub use session::{session, Outcome, Shown};
 
 use std::ops::RangeInclusive;

@@ -2,17 +2,9 @@
 
 use crate::Book;
 
-/// "orders of 8 bytes: byte 0 kind, byte 1 argument", "byte 2 becomes the hand", byte 3 zero, "bytes 4 to 7 a
-/// mask", of a finish "a limit"
+/// "orders of 8 bytes: byte 0 kind, byte 1 argument, bytes 2, 3 zero, bytes 4 to 7 a mask", of a finish
+/// "a limit"
 pub type Order = [u8; 8];
-
-/// "the hand, 0 to 3": so many hands there are.
-pub const HANDS: usize = 4;
-
-/// "Order byte 2 becomes the hand, 0 to 3, in every kind."
-pub fn hand_of(order: &Order) -> usize {
-    usize::from(order[2])
-}
 
 /// The kinds of orders, by their numbers.
 #[derive(Clone, Copy, Debug, PartialEq, Eq, PartialOrd, Ord)]
@@ -54,32 +46,34 @@ impl Kind {
         self.causes().iter().map(|&(refusal, _)| refusal).collect()
     }
 
-    /// The causes of its refusals, in the order in which they are written; 25 with the bytes that must be zero.
+    /// The causes of its refusals, in the order in which they are written.
     fn causes(self) -> &'static [Cause] {
         match self {
-            // "21 if the column isn't below C, 22 if a mask bit at or above V is set."
+            // "Refused with 25 if byte 2 or 3 isn't zero, 21 if the column isn't below C, 22 if a
+            // mask bit at or above V is set."
             Self::Narrow => &[
-                (25, |order, _, _| wrong_bytes(order, &[3])),
+                (25, |order, _, _| any_set(&order[2..=3])),
                 (21, |order, book, _| column_of(order) >= book.counts.len()),
                 (22, |order, book, _| {
                     mask_of(order) & !values(order, book) != 0
                 }),
             ],
-            // "23 if depth is 16."
+            // "Refused with 25 if any of bytes 1 to 7 isn't zero, 23 if depth is 16."
             Self::Mark => &[
-                (25, |order, _, _| wrong_bytes(order, &[1, 3, 4, 5, 6, 7])),
+                (25, |order, _, _| any_set(&order[1..=7])),
                 (23, |_, _, trail| depth(trail) == 16),
             ],
-            // "24 if m is 0 or above the depth."
+            // "Byte 1 is m. Refused with 25 if any of bytes 2 to 7 isn't zero, 24 if m is 0 or
+            // above the depth."
             Self::Back => &[
-                (25, |order, _, _| wrong_bytes(order, &[3, 4, 5, 6, 7])),
+                (25, |order, _, _| any_set(&order[2..=7])),
                 (24, |order, _, trail| {
                     order[1] == 0 || mark_of(order) > depth(trail)
                 }),
             ],
-            // "27 for a larger limit, after 25"
+            // "27 for a larger limit, after 25, which covers only bytes 1 to 3 here."
             Self::Finish => &[
-                (25, |order, _, _| wrong_bytes(order, &[1, 3])),
+                (25, |order, _, _| any_set(&order[1..=3])),
                 (27, |order, _, _| limit_of(order) > MOST_TRIES),
             ],
             // "Other kinds are refused with 20, before the rest."
@@ -189,7 +183,6 @@ fn values(order: &Order, book: &Book) -> u32 {
     count.map_or(0, |&count| all_values(count))
 }
 
-/// "Refusal 25 covers hands above 3 in place of a byte 2 that isn't zero", and these bytes if one isn't zero.
-fn wrong_bytes(order: &Order, zeros: &[usize]) -> bool {
-    hand_of(order) >= HANDS || zeros.iter().any(|&byte| order[byte] != 0)
+fn any_set(bytes: &[u8]) -> bool {
+    bytes.iter().any(|&byte| byte != 0)
 }

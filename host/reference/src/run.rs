@@ -1,15 +1,11 @@
 //! The call that runs a list, and the lines that the program prints of it.
 
 use crate::answers::answer;
-use crate::orders::{hand_of, Order, HANDS};
-use crate::session::{session, Shown};
+use crate::session::session;
 use crate::{check, decode, number_at};
 
 /// "answer i is written into bytes 72 × i to 72 × i + 71"
 const ANSWER: usize = 72;
-
-/// "four 16-bit counts, so 8 more bytes are needed"
-const COUNTS: usize = 2 * HANDS;
 
 /// A refusal of a run, and its place if it applies to these orders and a space of so many bytes.
 type Cause = (u64, fn(&[u8], usize) -> Option<usize>);
@@ -21,7 +17,7 @@ const CAUSES: &[Cause] = &[
         let right = orders.len().is_multiple_of(8) && orders.len() <= 2_048;
         (!right).then_some(0)
     }),
-    // "11 if the answer space is shorter" than is needed, "place that many bytes"
+    // "11 if the answer space is shorter than 72 × (n + 1) for n orders, place that many bytes"
     (11, |orders, space| {
         let needed = space_for(orders);
         (space < needed).then_some(needed)
@@ -33,14 +29,9 @@ pub fn run_refusals() -> Vec<u64> {
     CAUSES.iter().map(|&(refusal, _)| refusal).collect()
 }
 
-/// "after the last answer": the bytes of the answers to these orders, "72 × (n + 1) for n orders".
-pub fn counts_start(orders: &[u8]) -> usize {
-    ANSWER * (orders.len() / 8 + 1)
-}
-
-/// "8 more bytes are needed and refusal 11 says so": the bytes that a run of these orders needs.
+/// "72 × (n + 1) for n orders": the bytes that the answers to these orders need.
 pub fn space_for(orders: &[u8]) -> usize {
-    counts_start(orders) + COUNTS
+    ANSWER * (orders.len() / 8 + 1)
 }
 
 /// "Run a list." "Each call returns one 64-bit number: refusal × 65,536 + place, or the accepted
@@ -56,48 +47,29 @@ pub fn run(book: &[u8], orders: &[u8], answers: &mut [u8]) -> u64 {
         }
     }
     // "Answer 0 is the opening"; "Later bytes of the space are untouched."
-    let list = orders.as_chunks().0;
-    let shown = session(&described, list);
+    let shown = session(&described, orders.as_chunks().0);
     for (i, shown) in shown.iter().enumerate() {
         answers[ANSWER * i..ANSWER * (i + 1)].copy_from_slice(&answer(&described, shown));
     }
-    // "after the last answer come four 16-bit counts"; "The call still returns their sum."
-    let counts = counts(list, &shown[1..]);
-    let place = &mut answers[counts_start(orders)..space_for(orders)];
-    place.copy_from_slice(&counts.map(u16::to_le_bytes).concat());
-    counts.map(u64::from).iter().sum()
+    // "Accepted: the number of accepted orders."
+    let after_orders = shown[1..].iter();
+    after_orders.filter(|shown| shown.refusal == 0).count() as u64
 }
 
-/// "a count for each hand": its accepted orders, by what stands after each order of the list.
-fn counts(list: &[Order], shown: &[Shown]) -> [u16; HANDS] {
-    let mut counts = [0; HANDS];
-    for (order, shown) in list.iter().zip(shown) {
-        if shown.refusal == 0 {
-            counts[hand_of(order)] += 1;
-        }
-    }
-    counts
-}
-
-/// What the program prints for this book and these orders, every line with its newline. "The program's last
-/// line becomes accepted and the four counts"; "a refused run prints only: refused, number, place."
+/// What the program prints for this book and these orders, every line with its newline. "Last line:
+/// accepted and the count; a refused run prints only: refused, number, place."
 pub fn printed(book: &[u8], orders: &[u8]) -> String {
-    let mut space = vec![0; space_for(orders)];
-    let number = run(book, orders, &mut space);
+    let mut answers = vec![0; space_for(orders)];
+    let number = run(book, orders, &mut answers);
     if number >= 65_536 {
         return format!("refused {} {}\n", number / 65_536, number % 65_536);
     }
     let columns = usize::from(book[4]);
-    let (answers, counts) = space.split_at(counts_start(orders));
     let mut lines = String::new();
     for (i, answer) in answers.chunks_exact(ANSWER).enumerate() {
         lines += &line(i, answer, columns);
     }
-    lines += "accepted";
-    for count in counts.as_chunks().0 {
-        lines += &format!(" {}", u16::from_le_bytes(*count));
-    }
-    lines + "\n"
+    lines + &format!("accepted {number}\n")
 }
 
 /// "Each line: answer number, refusal, status, depth, done, byte 3, the C domains, with one space

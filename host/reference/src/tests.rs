@@ -5,7 +5,6 @@ mod defined;
 mod done;
 mod finish;
 mod forbidden;
-mod hands;
 mod short;
 
 use crate::{book_refusals, check, decode, run_refusals, Book, Kind, Sheet};

@@ -9,21 +9,9 @@ returns : tie.Need-returns
 unfolding accepted_line
 returns c =
     let last = c.before.before in
-    let fourth = last.before.before.before.before in
-    let third = fourth.before.before.before.before in
-    let second = third.before.before.before.before in
-    let first = second.before.before.before.before in
-    let word = first.before.before.before.before in
-    written_most
-    (written_then
-    (written_then
-    (written_then (written_then (written_then word.put.ensures first.put_count.ensures) second.put-count2.ensures) third.put-count3.ensures)
-    fourth.put-count4.ensures)
-    last.put_byte.ensures)
-    (omega arith)
+    let count = last.before.before.before.before in
+    let word = count.before.before.before.before in
+    written_most (written_then (written_then word.put.ensures count.put-field.ensures) last.put_byte.ensures) (omega arith)
 
 pub put_accepted_spec : {M : Type 1} → statement M
-put_accepted_spec =
-    tie.close
-    (tie.spec (λ c. search rules) (λ c κs. search rules) (λ c κs. search rules) (λ c κs. search rules) (λ c κs. search rules) (λ c κs. search rules) (λ c κs. search rules)
-    (λ c. search rules) returns)
+put_accepted_spec = tie.close (tie.spec (λ c. search rules) (λ c κs. search rules) (λ c κs. search rules) (λ c κs. search rules) (λ c. search rules) returns)

@@ -7,7 +7,6 @@
 //!                                  byte set (88..508=255 sets several), `length=N`, or the checks mended
 //!     orders 16 times mark         orders in words, or 5.0.0.0.0.0.0.0 for their bytes; lines are joined
 //!     orders narrow 0 4 back 1 within 2     a finish is `finish`, or `within` its limit
-//!     orders mark by 3 mark by 0 finish     orders in words after `by` are given by this hand
 //!     space 216                    the bytes of the answer space
 //!     fill 0                       what each of them is before the run
 //! ```
@@ -16,7 +15,7 @@
 //! fill.
 
 use super::{folder, read_contents, Vector, FILL};
-use crate::{back, by, finish, mend, narrow, write, FINISH, MARK};
+use crate::{back, finish, mend, narrow, write, FINISH, MARK};
 use std::fs;
 use std::str::{FromStr, SplitWhitespace};
 
@@ -93,36 +92,26 @@ fn change(bytes: &mut Vec<u8>, word: &str) {
 }
 
 fn orders(mut words: SplitWhitespace) -> Vec<u8> {
-    let (mut times, mut hand) = (1, 0);
+    let mut times = 1;
     let mut orders = Vec::new();
     while let Some(word) = words.next() {
-        let order = match word {
-            "mark" => MARK,
-            "finish" => FINISH,
-            "within" => finish(next(&mut words)),
-            "back" => back(next(&mut words)),
-            "narrow" => narrow(next(&mut words), next(&mut words)),
-            "by" => {
-                hand = next(&mut words);
-                continue;
+        match word {
+            "mark" => orders.extend(MARK),
+            "finish" => orders.extend(FINISH),
+            "within" => orders.extend(finish(words.next().map_or(0, number))),
+            "back" => orders.extend(back(words.next().map_or(0, number))),
+            "narrow" => {
+                let column = words.next().map_or(0, number);
+                orders.extend(narrow(column, words.next().map_or(0, number)));
             }
             _ if words.clone().next() == Some("times") => {
                 times = number(word);
                 words.next();
-                continue;
             }
-            _ => {
-                orders.extend(word.split('.').map(number::<u8>));
-                continue;
-            }
-        };
-        orders.extend(by(hand, order));
+            _ => orders.extend(word.split('.').map(number::<u8>)),
+        }
     }
     orders.repeat(times)
-}
-
-fn next<T: FromStr>(words: &mut SplitWhitespace) -> T {
-    number(words.next().expect("a number"))
 }
 
 fn number<T: FromStr>(word: &str) -> T {

@@ -64,7 +64,7 @@ fn two_tries_and_none() {
     }
 }
 
-/// "27 for a larger limit, after 25", which covers byte 1, hands above 3 and byte 3 here.
+/// "27 for a larger limit, after 25, which covers only bytes 1 to 3 here."
 #[test]
 fn limits_that_are_too_large() {
     let harbour = described_harbour();

@@ -4,7 +4,6 @@ use lib.ListN.{length}
 use borrow.Author.Rules.{rules}
 use Rattle.runs.specs.Results.{RightInput}
 use Rattle.runs.proofs.Results.{book_refused, list_refused, result_accepted, right_list, right_zero, space_accepted, space_short}
-use Rattle.runs.proofs.Runs.{ran_total, through_few}
 use Rattle.runs.proofs.run.run.Statement.{statement}
 use Rattle.runs.proofs.run.run.Tie as tie
 
@@ -23,9 +22,6 @@ returns-2 c = list_refused _ _ _ c.before.before.before.check.ensures (omega (ar
 mul-needed : tie.Need-overflow-mul-needed
 mul-needed c = let l = right_list _ (sym c.before.wrong-list.ensures ∙ c.if2.false) in search (rules, l)
 
-add-needed-2 : tie.Need-overflow-add-needed-2
-add-needed-2 c = let l = right_list _ (sym c.before.wrong-list.ensures ∙ c.if2.false) in search (rules, l)
-
 add-result : tie.Need-overflow-add-result
 add-result c = let l = right_list _ (sym c.before.before.wrong-list.ensures ∙ c.before.if2.false) in search (rules, l)
 
@@ -40,23 +36,17 @@ right c = record {
   enough = omega (arith, c.if3.false);
 }
 
-run-list-requires : tie.Need-run-list-requires
-run-list-requires c κs = right c.before
+run-orders-requires : tie.Need-run-orders-requires
+run-orders-requires c κs = right c.before
 
-total-requires : tie.Need-total-requires
-total-requires c κs =
-    let i : tie.Else2 = search in
-    let r : tie.After-run-list = search in
-    through_few _ _ _ r.run-list.ensures (right_list _ (sym i.before.wrong-list.ensures ∙ i.if2.left))
+same_length : tie.Need-same-length
+same_length c = search rules
 
 returns-4 : tie.Need-returns-4
 returns-4 c =
-    let l : tie.After-run-list = search in
-    let t : tie.After-total = search in
-    let i : tie.Else3 = search in
-    let r = l.run-list.ensures in
-    let e = right_zero _ _ _ (right i) in
-    (t.total.ensures ∙ ran_total _ _ _ r ∙ sym (result_accepted _ _ _ e), r.wrote ∙ sym (space_accepted _ _ _ e))
+    let r = c.before.before.run-orders.ensures in
+    let e = right_zero _ _ _ (right c.before.before.before.before) in
+    (r.counts ∙ sym (result_accepted _ _ _ e), r.wrote ∙ sym (space_accepted _ _ _ e))
 
 pub run_spec : {M : Type 1} → statement M
 run_spec =
@@ -68,10 +58,8 @@ run_spec =
     returns-2
     (λ c. search rules)
     mul-needed
-    add-needed-2
     add-result
     returns-3
-    run-list-requires
-    total-requires
-    (λ c. search rules)
+    run-orders-requires
+    same_length
     returns-4)

@@ -1,14 +1,15 @@
 -- The run's loop. The invariant is `RanTo`: after i orders the session, the count and the space are those of the first i orders. `turn` has what every
 -- order's answer needs, `stepped` what the order made of the session, by whichever way it went; `more` (Runs) then adds the order.
-use mathlib.Core.Path.{◌≡◌, refl}
+use mathlib.Core.Path.{◌∙◌, ◌≡◌, refl}
 use mathlib.Core.Logic.{⊎_elim}
 use mathlib.Core.List.{List}
 use Prim.Native.Nat.{◌*◌, ◌+◌, ◌-◌, ◌/◌, ◌<◌, ◌≤◌, ℕ}
 use native.Mathlib.Omega.{arith}
+use lib.Dec.{eqb}
 use lib.ListN.{drop, length, take}
 use borrow.Author.Rules.{rules}
 use Rattle.model.specs.Orders.{trail, trail_from}
-use Rattle.model.specs.Tests.{tab}
+use Rattle.model.specs.Tests.{one_if, tab}
 use Rattle.book.specs.Decoding.{book_of}
 use Rattle.sessions.specs.Holds.{SomeSession, Stepped}
 use Rattle.sessions.specs.Lists.{orders_to}
@@ -18,17 +19,17 @@ use Rattle.status.proofs.Status.{laid_sheets}
 use Rattle.sessions.proofs.Holds.{back_room, mark_room, narrow_inside, step_back, step_mark, step_narrow, step_other, step_refused}
 use Rattle.runs.specs.Runs.{RanTo}
 use Rattle.runs.proofs.Results.{right_list}
-use Rattle.runs.proofs.Runs.{depth_small, more, opened_long, opened_ran, ran_few, ran_from, ran_room, refuses_small, says_more}
+use Rattle.runs.proofs.Runs.{counts_none, counts_one, depth_small, more, opened_long, opened_ran, ran_few, ran_from, ran_room, refuses_small, says_more}
 use Rattle.runs.proofs.run.run_orders.Statement.{statement}
 use Rattle.runs.proofs.run.run_orders.Tie as tie
 
 abbrev invariant-loop : tie.invariant-loop
-invariant-loop book orders answers₀ begins scopes shorts s₀ told₀ counts₀ i₀ answers s told counts i =
-    RanTo book orders answers₀ i s counts answers × (i ≤ length orders / 8) × (72 * (length orders / 8) + 72 ≤ length answers₀)
+invariant-loop book orders answers₀ begins scopes shorts s₀ told₀ accepted₀ i₀ answers s told accepted i =
+    RanTo book orders answers₀ i s accepted answers × (i ≤ length orders / 8) × (72 * (length orders / 8) + 72 ≤ length answers₀)
     × SummaryIs book (trail (book_of book) (orders_to orders i)) told
 
 abbrev decreases-loop : tie.decreases-loop
-decreases-loop book orders answers₀ begins scopes shorts s₀ told₀ counts₀ i₀ answers s told counts i = length orders / 8 - i
+decreases-loop book orders answers₀ begins scopes shorts s₀ told₀ accepted₀ i₀ answers s told accepted i = length orders / 8 - i
 
 show-opening-requires : tie.Need-show-opening-requires invariant-loop decreases-loop
 show-opening-requires c κs =
@@ -37,35 +38,31 @@ show-opening-requires c κs =
     let s : tie.After-open invariant-loop decreases-loop = search in
     (laid_sheets at-lay-out.lay-out.ensures, record { trail = _; is = s.«open».ensures.current }, omega (arith, start.pre.enough))
 
--- the function's start, from where the counts are laid out, and from the loop's head
-abbrev begun : tie.After-none-counted invariant-loop decreases-loop → tie.Start invariant-loop decreases-loop
-begun c = c.before.before.before.before.before.before.before.before.before.before.before.before.before.before.before.before.before.before.before
-
-abbrev origin : tie.At-loop invariant-loop decreases-loop → tie.Start invariant-loop decreases-loop
-origin c = begun c.before
-
 loop-holds : tie.Need-loop-init invariant-loop decreases-loop
 unfolding tab trail_from
 loop-holds c =
-    let start = begun c in
+    let start : tie.Start invariant-loop decreases-loop = search in
     let s : tie.After-open invariant-loop decreases-loop = search in
     let o : tie.After-show-opening invariant-loop decreases-loop = search in
     let p = start.pre.enough in
     let h = s.«open».ensures in
-    let w = o.show-opening.ensures h.current in
-    let z = c.none-counted.ensures in (
-      opened_ran _ _ _ (omega (arith, p)) h z w.1,
+    let w = o.show-opening.ensures h.current in (
+      opened_ran _ _ _ (omega (arith, p)) h w.1,
       omega arith,
-      omega (arith, p, opened_long _ start.args.orders.now _ (omega (arith, p)) h z w.1),
+      omega (arith, p, opened_long _ start.args.orders.now _ (omega (arith, p)) h w.1),
       w.0,
     )
 
+-- the function's start, from the loop's head
+abbrev origin : tie.At-loop invariant-loop decreases-loop → tie.Start invariant-loop decreases-loop
+origin c = c.before.before.before.before.before.before.before.before.before.before.before.before.before.before.before.before.before.before.before
+
 -- the session of the empty trail, and answer 0
 abbrev shown-first : tie.At-loop invariant-loop decreases-loop → tie.After-show-opening invariant-loop decreases-loop
-shown-first c = c.before.before.before.before
+shown-first c = c.before.before.before
 
 abbrev opened : tie.At-loop invariant-loop decreases-loop → tie.After-open invariant-loop decreases-loop
-opened c = c.before.before.before.before.before.before.before.before.before
+opened c = c.before.before.before.before.before.before.before.before
 
 -- ---- an order's bytes lie in the list
 mul-order : tie.Need-overflow-mul-order invariant-loop decreases-loop
@@ -77,15 +74,12 @@ mul-order-2 c = let l = right_list _ (origin c.before).pre.list in omega (arith,
 add-order : tie.Need-overflow-add-order invariant-loop decreases-loop
 add-order c = let l = right_list _ (origin c.before).pre.list in omega (arith, c.loop-test.true)
 
-refusal-requires : tie.Need-refusal-requires invariant-loop decreases-loop
-refusal-requires c κs = ((origin c.before.before).pre.book, search rules)
-
 -- ---- an order's turn, once its refusal is known: the function's start, the layout, the loop's head, and the order's bytes
 abbrev start : tie.After-refusal invariant-loop decreases-loop → tie.Start invariant-loop decreases-loop
 start c = origin c.before.before.before
 
 abbrev laid : tie.After-refusal invariant-loop decreases-loop → tie.After-lay-out invariant-loop decreases-loop
-laid c = c.before.before.before.before.before.before.before.before.before.before.before.before.before.before.before.before
+laid c = c.before.before.before.before.before.before.before.before.before.before.before.before.before.before.before
 
 abbrev head : tie.After-refusal invariant-loop decreases-loop → tie.At-loop invariant-loop decreases-loop
 head c = c.before.before.before
@@ -111,10 +105,12 @@ some c = record { trail = _; holds = (head c).loop.invariant.0.holds }
 add-i : tie.Need-overflow-add-i invariant-loop decreases-loop
 add-i c = let l = (turn c).0 in search (rules, l)
 
-after-requires : tie.Need-after-requires invariant-loop decreases-loop
-after-requires c κs =
+add-accepted : tie.Need-overflow-add-accepted invariant-loop decreases-loop
+add-accepted c =
     let t : tie.After-refusal invariant-loop decreases-loop = search in
-    (search rules, ran_few _ _ _ (head t).loop.inv.0 (omega (arith, (turn t).0)))
+    let l = (turn t).0 in
+    let k = ran_few _ _ _ (head t).loop.inv.0 in
+    search (rules, l, k)
 
 -- ---- a narrow
 shared-slice-read-wide : tie.Need-shared-slice-read-wide invariant-loop decreases-loop
@@ -153,14 +149,21 @@ back-requires c κs =
 
 -- ---- its answer
 stepped : (c : tie.Joined1 invariant-loop decreases-loop)
-    → let t = c.before.before in Stepped (start t).args.book.now (head t).loop.s (bytes t) c.if1.s
+    → let t = c.before in Stepped (start t).args.book.now (head t).loop.s (bytes t) c.if1.s × (c.if1.accepted ≡ (head t).loop.accepted + one_if (eqb t.refusal.result 0))
 stepped c =
     let t : tie.After-refusal invariant-loop decreases-loop = search in
     let f = t.refusal.ensures (head t).loop.s refl in
-    ⊎_elim (λ w. rw w.10 (step_narrow _ _ _ f w.0.taken _ w.2.taken w.4.ensures.0 w.5.ensures w.9.ensures))
-    (⊎_elim (λ w. rw w.6 (step_mark _ _ _ f w.0.taken _ w.4.taken w.5.ensures))
-    (⊎_elim (λ w. rw w.10 (step_back _ _ _ f w.0.taken _ w.6.taken w.8.ensures.0 w.9.ensures))
-    (⊎_elim (λ w. rw w.7 (step_other _ _ _ f w.0.taken w.2.left w.4.left w.6.left)) (λ w. rw w.1 (step_refused _ _ _ f w.0.left)))))
+    ⊎_elim (λ w. (
+      rw w.10 (step_narrow _ _ _ f w.0.taken _ w.2.taken w.4.ensures.0 w.5.ensures w.9.ensures),
+      w.11 ∙ counts_one _ w.0.taken,
+    ))
+    (⊎_elim (λ w. (rw w.6 (step_mark _ _ _ f w.0.taken _ w.4.taken w.5.ensures), w.7 ∙ counts_one _ w.0.taken))
+    (⊎_elim (λ w. (
+      rw w.10 (step_back _ _ _ f w.0.taken _ w.6.taken w.8.ensures.0 w.9.ensures),
+      w.11 ∙ counts_one _ w.0.taken,
+    ))
+    (⊎_elim (λ w. (rw w.7 (step_other _ _ _ f w.0.taken w.2.left w.4.left w.6.left), w.8 ∙ counts_one _ w.0.taken))
+    (λ w. (rw w.1 (step_refused _ _ _ f w.0.left), w.2 ∙ counts_none _ w.0.left)))))
     c.if1.branch
 
 show-order-requires : tie.Need-show-order-requires invariant-loop decreases-loop
@@ -168,7 +171,7 @@ show-order-requires c κs =
     let t : tie.After-refusal invariant-loop decreases-loop = search in
     let q = turn t in
     let j : tie.Joined1 invariant-loop decreases-loop = search in
-    let h = (stepped j).holds _ (some t).holds in (
+    let h = (stepped j).0.holds _ (some t).holds in (
       (laid t).lay-out.ensures,
       record { trail = _; is = h.current },
       q.0,
@@ -184,16 +187,15 @@ loop-again c =
     let l = (head t).loop in
     let j : tie.Joined1 invariant-loop decreases-loop = search in
     let s = stepped j in
-    let counted : tie.After-after invariant-loop decreases-loop = search in
     let shown : tie.After-show-order invariant-loop decreases-loop = search in
     let w = shown.show-order.ensures in
     let test = t.before.before.loop-test.taken in (
       more _ _ _ (order_part (start t).args.orders.now l.i _ _ refl refl) (omega (arith, test, l.inv.2)) l.inv.0 (t.refusal.ensures _ refl)
-          s l.inv.3 w counted.after.ensures,
+          s.0 l.inv.3 w s.1,
       omega (arith, test),
       l.inv.2,
       says_more _ _ _ (order_part (start t).args.orders.now l.i _ _ refl refl) (omega (arith, test, l.inv.2)) l.inv.0 (t.refusal.ensures _ refl)
-          s l.inv.3 w,
+          s.0 l.inv.3 w,
     )
 
 -- ---- the end
@@ -210,12 +212,12 @@ returns c =
     let s = (opened c.before).«open».ensures in
     let o = (shown-first c.before).show-opening.ensures s.current in
     let e : l.i ≡ length start.args.orders.now / 8 = omega (arith, c.loop-test.false, l.invariant.1) in
-    ran_from _ _ _ (omega (arith, start.pre.enough)) s c.before.before.none-counted.ensures o.1 (rw e at l.invariant.0)
+    ran_from _ _ _ (omega (arith, start.pre.enough)) s o.1 (rw e at l.invariant.0)
 
 pub run_orders_spec : {M : Type 1} → statement M
 run_orders_spec =
     tie.close
-    (tie.spec invariant-loop decreases-loop (λ c κs. search rules) (λ c κs. search rules) show-opening-requires (λ c κs. search rules) loop-holds mul-order mul-order-2 add-order (λ c. search rules) (λ c. search rules) (λ c. search rules)
-    refusal-requires add-i after-requires (λ c. search rules) shared-slice-read-wide (λ c κs. search rules) (λ c κs. search rules) narrow-requires
+    (tie.spec invariant-loop decreases-loop (λ c κs. search rules) (λ c κs. search rules) show-opening-requires loop-holds mul-order mul-order-2 add-order (λ c. search rules) (λ c. search rules) (λ c. search rules)
+    (λ c κs. search rules) add-i add-accepted (λ c. search rules) shared-slice-read-wide (λ c κs. search rules) (λ c κs. search rules) narrow-requires
     shared-slice-read-if3 mark-requires shared-slice-read-if4 shared-slice-read-wide-2 wide-requires-2 back-requires show-order-requires
     (λ c. search rules) loop-again same_length returns)

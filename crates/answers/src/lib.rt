@@ -5,6 +5,8 @@
 //
 //     0          72         144             72 i       72 i + 72
 //     | answer 0 | answer 1 | ..            | answer i | untouched
+#![tactic(auto)]
+
 ghost use Rattle.std.specs.Prelude.{◌≡◌, ◌∷◌, ◌*◌, ◌+◌, ◌≤◌, length};
 ghost use Rattle.fields.specs.Bytes.{half_bytes, over};
 ghost use Rattle.model.specs.Answers.{answer_bytes, domain_bytes};
@@ -13,7 +15,7 @@ ghost use Rattle.answers.specs.Answers.{answer_in};
 use fields::{put_half, put_word};
 
 // The fields of the model's `Answer`.
-#[derive(Drop)]
+#[derive(Clone, Copy)]
 pub struct Answer {
     pub refused: u8,
     pub status: u8,

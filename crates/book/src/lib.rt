@@ -6,6 +6,8 @@
 //
 //   fault    the first fault of the rows, and the refusal for it
 //   rise     the first row of a forbidden sheet that does not rise, and the refusal for it
+#![tactic(auto)]
+
 pub mod fault;
 pub mod rise;
 

@@ -6,5 +6,7 @@
 //
 //   bits      masks as machine words
 //   walk      the walks over the rows of a word, for pass 1 and pass 2
+#![tactic(auto)]
+
 pub mod bits;
 pub mod walk;

@@ -216,7 +216,7 @@ pub fn kept_inside(book: &[u8], begin: usize, w: usize, x: &[u32; 4], word: u64)
 // ---- pass 2: the values at each of the four places. Of the cell x this is x % 32: 255 gives 31, which such a row does carry
 
 // A set of values for each place, while the rows of one word are walked.
-#[derive(Drop)]
+#[derive(Clone, Copy)]
 pub struct Four {
     pub a: u32,
     pub b: u32,

@@ -10,7 +10,7 @@ ghost use Rattle.std.specs.Prelude.{◌≡◌, ◌+◌, ◌*◌, ◌/◌, ◌^�
 ghost use Rattle.counters.specs.Counters.{AtRow, FirstRows, PastRows, cell_place, near_place};
 
 // Where a walk stands, over the rows of a sheet that begin at byte `begin`: its row stands at byte `at`.
-#[derive(Drop)]
+#[derive(Clone, Copy)]
 pub struct Counters {
     pub begin: usize,
     pub block: usize,

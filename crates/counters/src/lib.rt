@@ -4,4 +4,6 @@
 // division. `first_rows` and `past_rows` ensure `FirstRows` and `PastRows`: the rows of a word that are walked in one stretch, and the others.
 //
 //   counter   the counters, and a word cut in two
+#![tactic(auto)]
+
 pub mod counter;

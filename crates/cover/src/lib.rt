@@ -6,6 +6,8 @@
 //   few      the quick no: fewer rows than choices
 //   table    the rows that match a value of place 3, as a table: which values of place 0 they allow with those of places 1 and 2
 //   test     whether every choice is in the table of its value of place 3; and `covered`
+#![tactic(auto)]
+
 pub mod few;
 pub mod table;
 pub mod test;

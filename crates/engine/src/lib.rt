@@ -7,6 +7,8 @@
 //   worklist     the sheets that wait, and what each has not seen
 //   propagate    one sheet after another, until none waits: the closure
 //   state        domains, words, their index and how many are not zero; a narrow
+#![tactic(auto)]
+
 pub mod layout;
 pub mod propagate;
 pub mod state;

@@ -21,7 +21,7 @@ ghost use Rattle.engine.specs.States.{StateIs, SomeState, Emptied, Narrows};
 use crate::propagate::*;
 use crate::worklist::*;
 
-#[derive(Drop)]
+#[derive(Clone, Copy)]
 pub struct State {
     pub dom: [u32; 16],
     pub valid: [u64; 64],

@@ -6,6 +6,8 @@
 //   doubt    a first look at the sheets, which is enough for a right book without 255
 //   wrong    the first block of a sheet with a wrong byte, and that byte
 //   fall     the first row of a sheet that is not above the one before it
+#![tactic(auto)]
+
 pub mod doubt;
 pub mod fall;
 pub mod wrong;

@@ -1,6 +1,8 @@
 // fields: the bytes of a list, and the numbers that they make, the lowest byte first. Every format of the service stands on this crate.
 //
 // Promise: each function reads or writes what its definition says (specs/Bytes.antt), whatever the list.
+#![tactic(auto)]
+
 ghost use Rattle.std.specs.Prelude.{◌≡◌, ◌+◌, ◌*◌, ◌<◌, ◌≤◌, length};
 ghost use Rattle.fields.specs.Bytes.{half_at, half_bytes, over, word_at, word_bytes};
 

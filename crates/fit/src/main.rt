@@ -2,6 +2,8 @@
 //
 // Promise: `put_run` puts `run_text` (specs/Prints.antt) of the bytes read, for any book and orders. The rest reads and writes by the kit's libraries,
 // whose C functions' contracts are assumed.
+#![tactic(auto)]
+
 ghost use Rattle.std.specs.Prelude.{◌≡◌, ◌≤◌, length, take};
 ghost use Rattle.fit.specs.Prints.{columns_shown, run_text};
 

@@ -6,6 +6,8 @@
 //   block    the 512-byte blocks and their checks
 //   head     block 0: each field and what it must be
 //   limit    what a field must not be
+#![tactic(auto)]
+
 pub mod block;
 pub mod head;
 pub mod limit;

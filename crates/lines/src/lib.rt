@@ -5,6 +5,8 @@
 // line of a refused run.
 //
 // Each function takes the buffer and a place `at` in it, puts its text there and returns the place behind it.
+#![tactic(auto)]
+
 ghost use Rattle.std.specs.Prelude.{◌≡◌, [], ◌∷◌, ◌+◌, ◌*◌, ◌<◌, ◌≤◌, length, take};
 ghost use Rattle.model.specs.Answers.{domain_in};
 ghost use Rattle.lines.specs.Texts.{number as Texts·number, field, domain_fields, answer_head, answer_line, answer_lines, accepted_line, refused_line, printed};

@@ -8,5 +8,7 @@
 //
 //   count     the values of a forbidden sheet that are not forbidden with everything
 //   strike    pass 2, second half: the columns struck to the values with support; and `revise`, the whole look
+#![tactic(auto)]
+
 pub mod count;
 pub mod strike;

@@ -88,7 +88,7 @@ fn strike(
 }
 
 // What a look at a sheet comes to: whether the sheet can still be satisfied, and the columns that lost a value.
-#[derive(Drop)]
+#[derive(Clone, Copy)]
 pub struct Revision {
     pub satisfied: bool,
     pub lost: u32,

@@ -129,6 +129,7 @@ valid_same D E (c ∷ cs) (x ∷ r) e =
 
 -- an element of a list has a place, and what stands at a place is an element
 pub at_place : {A : Type 0} (d x : A) (l : List A) → Memᴰ x l → (i : ℕ) × (i < length l) × (get_or l i d ≡ x)
+at_place {A = A} d x [] m = elim m [ ]
 at_place d x (y ∷ l) (Memᴰ.head e) = (0, zero-lt-suc (length l), sym e)
 at_place d x (y ∷ l) (Memᴰ.tail m) = let r = at_place d x l m in (suc r.0, omega arith, r.2)
 

@@ -136,6 +136,7 @@ module _ {A : Type 0} where
 
   pub all_in_e : (l : List A) (f : A → Bool) → all_in l f ≡ true → (x : A) → Memᴰ x l → f x ≡ true
   unfolding all_in
+  all_in_e [] f e y m = elim m [ ]
   all_in_e (x ∷ xs) f e y (Memᴰ.head p) = ap f p ∙ and_l (f x) _ e
   all_in_e (x ∷ xs) f e y (Memᴰ.tail m) = all_in_e xs f (and_r (f x) _ e) y m
 
@@ -165,6 +166,7 @@ module _ {A : Type 0} where
 
   pub any_in_i : (l : List A) (f : A → Bool) (x : A) → Memᴰ x l → f x ≡ true → any_in l f ≡ true
   unfolding any_in
+  any_in_i [] f y m e = elim m [ ]
   any_in_i (x ∷ xs) f y (Memᴰ.head p) e = or_l (f x) _ (ap f (sym p) ∙ e)
   any_in_i (x ∷ xs) f y (Memᴰ.tail m) e = or_r (f x) _ (any_in_i xs f y m e)
 

@@ -22,6 +22,7 @@ use Rattle.model.proofs.Twins.{twins_answer}
 module _ {A B : Type 0} (f : A → List B) where
   flat-i : (l : List A) (x : A) (y : B) → Memᴰ x l → Memᴰ y (f x) → Memᴰ y (flat_map f l)
   unfolding flat_map
+  flat-i [] x y k m = elim k [ ]
   flat-i (z ∷ l) x y (Memᴰ.head e) m = Memᴰ.append_left (flat_map f l) (subst (λ (u : A). Memᴰ y (f u)) e m)
   flat-i (z ∷ l) x y (Memᴰ.tail k) m = Memᴰ.append_right (f z) (flat-i l x y k m)
 

@@ -8,3 +8,5 @@
 //   specs/     what a reader must believe: stores, books, closure, solutions, orders, answers, and the statements of the demands, each with
 //              the sentence of document 01 that it states. Lib.antt has the reading order
 //   proofs/    the laws: every statement proved, and the lemmas that the crates above cite
+
+#![tactic(auto)]

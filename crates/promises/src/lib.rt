@@ -4,6 +4,8 @@
 // `accepted_runs` and `runs_compare`. `run_both` ensures demand 3 of any two lists, whole (`BothRan`, specs/Comparisons.antt): its sentences on "the
 // session given back" no answer shows. The sessions are those of the loop that `fitting_run` runs. `TwinsRunAlike` and `WrittenOutRuns`
 // (specs/Twins.antt) are what runs over two books that allow the same leave, proved as `twins_run_alike` and `written_out_runs`.
+#![tactic(auto)]
+
 ghost use Rattle.std.specs.Prelude.{length};
 ghost use Rattle.runs.specs.Results.{RightInput};
 ghost use Rattle.promises.specs.Comparisons.{BothRan};
@@ -12,7 +14,7 @@ use runs::run::*;
 use sessions::session::*;
 
 // The sessions after two lists.
-#[derive(Drop)]
+#[derive(Clone, Copy)]
 pub struct Pair {
     pub left: Session,
     pub right: Session,

@@ -5,4 +5,6 @@
 // many from its first on are not (`over_bounds`, specs/Bounds.antt). Where the first fault is, and its refusal, is for crates faults and book.
 //
 //   row      the sheets' blocks: how many; the bounds of a row; rows over their bounds
+#![tactic(auto)]
+
 pub mod row;

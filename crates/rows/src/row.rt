@@ -65,7 +65,7 @@ pub fn used_rows(n: usize, q: usize) -> usize
 // ---- the bounds of a sheet's rows
 
 // What the four bytes of a used row have to be below; at the first k of them 255 passes.
-#[derive(Drop)]
+#[derive(Clone, Copy)]
 pub struct Bounds {
     w: u8,
     x: u8,

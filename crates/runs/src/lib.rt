@@ -4,4 +4,6 @@
 // customer's words stands in the crate promises.
 //
 //   run      the run: its refusals, and the loop over the orders
+#![tactic(auto)]
+
 pub mod run;

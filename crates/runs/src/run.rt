@@ -15,7 +15,7 @@ const WRONG_LIST: u64 = 655360;
 const SHORT_SPACE: u64 = 720896;
 
 // What is left when every order has been run: how many were accepted, and the session.
-#[derive(Drop)]
+#[derive(Clone, Copy)]
 pub struct Ran {
     pub accepted: u64,
     pub session: Session,

@@ -11,6 +11,8 @@
 //
 // Picking a column and trying its values take turns until every column is single. Each state of the search is that of a trail: setting column c
 // to v is a narrow of c to v alone. So what `try_value` propagates is what a narrow would, and the caller's arrays stay as they are.
+#![tactic(auto)]
+
 ghost use Rattle.std.specs.Prelude.{◌≡◌, true, ◌<◌, ◌≤◌, replicate};
 ghost use Rattle.std.specs.Int.Count.{count_trailing_zeros};
 ghost use Rattle.model.specs.Tests.{FirstIn};
@@ -23,7 +25,7 @@ ghost use Rattle.search.specs.Searches.{FilledState, Finishes, OpenValue, Reache
 use engine::state::*;
 
 // What an answer shows besides the state: byte 3 (1 found, 2 none, 3 stopped), the tries made, and the masks in the domains' place.
-#[derive(Drop)]
+#[derive(Clone, Copy)]
 pub struct Outcome {
     pub number: u8,
     pub tries: u32,

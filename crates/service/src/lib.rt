@@ -8,6 +8,8 @@
 //   fitting_check    checks a book: refusal × 65,536 + place, or C × 16 + S
 //   fitting_run      runs a list of orders over a book: refusal × 65,536 + place, or the number of accepted orders; the answers, 72 bytes
 //                    each, in front of the answer space
+#![tactic(auto)]
+
 ghost use Rattle.std.specs.Prelude.{◌≡◌, length};
 ghost use Rattle.book.specs.Verdicts.{check_result};
 ghost use Rattle.runs.specs.Results.{run_result, run_space};

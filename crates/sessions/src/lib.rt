@@ -6,5 +6,7 @@
 //
 //   session      a state, the depth, and the states saved at marks
 //   orders       one order of 8 bytes: its refusal
+#![tactic(auto)]
+
 pub mod orders;
 pub mod session;

@@ -13,7 +13,7 @@ ghost use Rattle.sessions.specs.Holds.{Holds, SomeSession, NarrowHolds, MarkHold
 
 use engine::state::*;
 
-#[derive(Drop)]
+#[derive(Clone, Copy)]
 pub struct Session {
     pub now: State,
     pub depth: usize,

@@ -2,6 +2,8 @@
 //
 // Promise: `show_opening` writes answer 0 (`OpensWith`, specs/Shows.antt); `show_order` writes the answer to an order (`AnswersAt`), whatever trail stood
 // before it.
+#![tactic(auto)]
+
 ghost use Rattle.std.specs.Prelude.{◌≡◌, ◌+◌, ◌*◌, ◌<◌, ◌≤◌, length};
 ghost use Rattle.engine.specs.Layouts.{LayoutOf};
 ghost use Rattle.engine.specs.States.{SomeState};

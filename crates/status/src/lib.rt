@@ -2,6 +2,8 @@
 //
 // Promise: `summarise` ensures `Summarises` (specs/Status.antt) of whatever trail the state is of. Both go by the sizes of the domains, which are counted
 // once; of a sheet with two open columns or more its rows tell (crate cover).
+#![tactic(auto)]
+
 ghost use Rattle.std.specs.Prelude.{◌≡◌, cond, ◌^◌, length};
 ghost use Rattle.model.specs.Answers.{subsumed};
 ghost use Rattle.model.specs.Books.{sheet_at};
@@ -99,7 +101,7 @@ fn done_sheets(
     m
 }
 
-#[derive(Drop)]
+#[derive(Clone, Copy)]
 pub struct Summary {
     pub status: u8,
     pub done: u8,

@@ -2,6 +2,8 @@
 //
 // Promise: `counted` ensures `Counted` (specs/Tallies.antt), of the rows of one word. All places of a sheet are counted in one walk, which goes over the first 60 rows in
 // one stretch, as the walks of crate cells do.
+#![tactic(auto)]
+
 ghost use Rattle.std.specs.Prelude.{◌≡◌, ◌+◌, ◌*◌, ◌%◌, ◌^◌, ◌-◌, ◌<◌, get_or, length};
 ghost use Rattle.fields.specs.Bytes.{byte_at};
 ghost use Rattle.counters.specs.Counters.{AtRow, near_place};

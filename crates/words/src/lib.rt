@@ -6,6 +6,8 @@
 //   index     which words are not zero
 //   cut       pass 1: the rows cut by the columns that changed
 //   gather    pass 2, first half: the values that a row carries
+#![tactic(auto)]
+
 pub mod cut;
 pub mod gather;
 pub mod index;

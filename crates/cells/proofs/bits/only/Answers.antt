@@ -1,0 +1,6 @@
+use borrow.Author.Rules.{rules}
+use Rattle.cells.proofs.Walks.{shifted_one}
+use Rattle.cells.proofs.bits.only.Goals as goal
+
+pub returns : goal.returns
+returns c = shifted_one 32 c.args.v c.requires

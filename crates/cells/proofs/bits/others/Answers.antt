@@ -1,0 +1,9 @@
+use Prim.Native.Nat.{◌-◌}
+use native.Mathlib.Omega.{arith}
+use lib.Bits.{and_le_r}
+use borrow.Author.Rules.{rules}
+use Rattle.model.proofs.Masks.{cleared}
+use Rattle.cells.proofs.bits.others.Goals as goal
+
+pub returns : goal.returns
+returns c = (cleared 32 c.args.x c.requires c.ranges.x.fits, omega (arith, and_le_r c.args.x (c.args.x - 1)))

@@ -1,0 +1,17 @@
+use mathlib.Core.Path.{◌∙◌, ◌≡◌, ap}
+use Prim.Native.Nat.{◌%◌, ◌*◌, ◌+◌, ◌-◌, ◌≤◌, ℕ}
+use native.Mathlib.Omega.{arith}
+use lib.Dec.{ltb}
+use borrow.Author.Rules.{rules}
+use borrow.Author.Tests.{lt-ltb}
+use Rattle.cells.specs.Cells.{GatheredOf, cell_at, four_of}
+use Rattle.cells.proofs.Collects.{of_none, of_row, of_same, run_more, run_none}
+use Rattle.counters.proofs.Ones.{low_ones}
+use Rattle.cells.proofs.Stretches.{row_set}
+use Rattle.cells.proofs.walk.gathered_run.Given as goal
+
+abbrev pub invariant-loop-k : goal.invariant-loop-k
+invariant-loop-k l = GatheredOf (λ l.k j. cell_at l.book l.p.begin (64 * l.p.word + l.k) j % 32) (λ i. ltb i l.k) (four_of 0 0 0 0) (four_of l.g.a l.g.b l.g.c l.g.d) × (l.k ≤ l.n)
+
+abbrev pub decreases-loop-k : goal.decreases-loop-k
+decreases-loop-k l = l.n - l.k

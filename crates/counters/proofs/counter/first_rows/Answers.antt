@@ -1,0 +1,7 @@
+use native.Mathlib.Omega.{arith}
+use borrow.Author.Rules.{rules}
+use Rattle.counters.proofs.Counters.{first_rows}
+use Rattle.counters.proofs.counter.first_rows.Goals as goal
+
+pub returns : goal.returns
+returns c = first_rows c.args.word c.args.n (omega (arith, c.requires.1))

@@ -1,0 +1,7 @@
+use native.Mathlib.Omega.{arith}
+use borrow.Author.Rules.{rules}
+use Rattle.counters.proofs.Counters.{past_rows}
+use Rattle.counters.proofs.counter.past_rows.Goals as goal
+
+pub returns : goal.returns
+returns c = past_rows c.args.word c.args.n c.ranges.word.fits (omega (arith, c.requires.1))

@@ -1,0 +1,15 @@
+use borrow.Author.Rules.{rules}
+use Prim.Native.Nat.{◌*◌, ◌+◌}
+use Rattle.model.proofs.Masks.{cleared_at}
+use Rattle.cells.specs.Cells.{cell_at}
+use Rattle.cells.proofs.Collects.{passed, passed_start}
+use Rattle.cells.proofs.Walks.{Part, whole}
+use Rattle.cover.specs.Covers.{Tabled}
+use Rattle.cover.proofs.Tables.{all_tabled, row_tabled, row_there, tabled_none}
+use Rattle.cover.proofs.table.put_near.Given as goal
+
+abbrev pub invariant-loop-left : goal.invariant-loop-left
+invariant-loop-left l = Tabled (λ k j. cell_at l.book l.p.begin (64 * l.p.word + k) j) (passed l.word l.left) l.initial.table l.table × Part l.left l.word
+
+abbrev pub decreases-loop-left : goal.decreases-loop-left
+decreases-loop-left l = l.left

@@ -1,0 +1,13 @@
+use native.Mathlib.Omega.{arith}
+use borrow.Author.Rules.{rules}
+use Prim.Native.Nat.{◌-◌, ◌<◌, ◌≤◌}
+use Rattle.words.proofs.Cuts.{word_at}
+use Rattle.words.proofs.Places.{eight}
+use Rattle.cover.proofs.Tables.{Tabling, kept_readable, tabling_all, tabling_more, tabling_start}
+use Rattle.cover.proofs.table.put_sheet.Given as goal
+
+abbrev pub invariant-loop-p : goal.invariant-loop-p
+invariant-loop-p l = Tabling l.book l.s l.v l.p l.valid l.index l.initial.table l.table × (l.p ≤ l.n)
+
+abbrev pub decreases-loop-p : goal.decreases-loop-p
+decreases-loop-p l = l.n - l.p

@@ -1,0 +1,17 @@
+use borrow.Author.Rules.{rules}
+use borrow.Author.Tests.{not-false, not-true}
+use mathlib.Core.Path.{◌≡◌, refl}
+use mathlib.Core.Bool.{true}
+use Prim.Native.Nat.{ℕ}
+use lib.ListN.{get_or}
+use Rattle.model.specs.Masks.{bit}
+use Rattle.model.proofs.Masks.{bit_below, bit_pow, bit_pow_only, cleared_at}
+use Rattle.cover.specs.Covers.{allowed_with}
+use Rattle.cover.proofs.Covers.{Tried, all_allowed, not_allowed, tried_all, tried_start, tried_turn}
+use Rattle.cover.proofs.test.allows_all.Given as goal
+
+abbrev pub invariant-loop-left : goal.invariant-loop-left
+invariant-loop-left l = Tried (λ c. (e : ℕ) → bit e (get_or l.x 1 0) ≡ true → (a : ℕ) → bit a (get_or l.x 0 0) ≡ true → bit a (allowed_with l.table c e) ≡ true) (get_or l.x 2 0) l.left
+
+abbrev pub decreases-loop-left : goal.decreases-loop-left
+decreases-loop-left l = l.left

@@ -1,0 +1,15 @@
+use mathlib.Core.Path.{◌≡◌, refl}
+use Prim.Native.Nat.{◌-◌, ◌<◌, ◌≤◌}
+use native.Mathlib.Omega.{arith}
+use borrow.Author.Rules.{rules}
+use Rattle.heads.specs.Heads.{sheets_of}
+use Rattle.engine.specs.Openings.{FullRows}
+use Rattle.engine.proofs.Openings.{rows_more, rows_none}
+use Rattle.engine.proofs.Worklists.{eight_sheets, head_length, rows_few}
+use Rattle.engine.proofs.state.fill_rows.Given as goal
+
+abbrev pub invariant-loop-s : goal.invariant-loop-s
+invariant-loop-s l = FullRows l.book l.s l.valid l.nonzero × (l.s ≤ l.n)
+
+abbrev pub decreases-loop-s : goal.decreases-loop-s
+decreases-loop-s l = l.n - l.s

@@ -1,0 +1,10 @@
+use mathlib.Core.Path.{sym}
+use borrow.Author.Rules.{rules}
+use Rattle.engine.proofs.Openings.{places_none, places_shifted}
+use Rattle.engine.proofs.state.places_below.Goals as goal
+
+pub returns-then-n-eq0 : goal.returns-then-n-eq0
+returns-then-n-eq0 c = sym (rw c.if-n-eq0.true places_none)
+
+pub returns : goal.returns
+returns c = places_shifted c.args.n c.requires

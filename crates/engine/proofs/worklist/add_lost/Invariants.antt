@@ -1,0 +1,13 @@
+use mathlib.Core.Path.{◌≡◌}
+use Prim.Native.Nat.{◌-◌, ◌≤◌}
+use native.Mathlib.Omega.{arith}
+use borrow.Author.Rules.{rules}
+use Rattle.engine.specs.Worklists.{Added}
+use Rattle.engine.proofs.Worklists.{added_more, added_none}
+use Rattle.engine.proofs.worklist.add_lost.Given as goal
+
+abbrev pub invariant-loop-f : goal.invariant-loop-f
+invariant-loop-f l = Added l.initial.changed l.lost l.f l.changed × (l.f ≤ 8)
+
+abbrev pub decreases-loop-f : goal.decreases-loop-f
+decreases-loop-f l = 8 - l.f

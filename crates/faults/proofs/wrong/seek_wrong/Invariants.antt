@@ -1,0 +1,14 @@
+use mathlib.Core.Path.{sym, ◌∙◌}
+use Prim.Native.Nat.{◌*◌, ◌-◌, ◌≤◌}
+use borrow.Author.Rules.{rules}
+use Rattle.model.specs.Tests.{NoneIn}
+use Rattle.model.proofs.Firsts.{first_in_end, first_in_found, none_more}
+use Rattle.rows.specs.Bounds.{wrong_in}
+use Rattle.rows.proofs.Bounds.{rows_right}
+use Rattle.faults.proofs.wrong.seek_wrong.Given as goal
+
+abbrev pub invariant-loop-i : goal.invariant-loop-i
+invariant-loop-i l = (l.i ≤ 508) × NoneIn (wrong_in l.m.w l.m.x l.m.y l.m.z l.m.k l.b (4 * l.n)) 0 l.i
+
+abbrev pub decreases-loop-i : goal.decreases-loop-i
+decreases-loop-i l = 508 - l.i

@@ -1,0 +1,7 @@
+use mathlib.Core.Path.{refl}
+use borrow.Author.Rules.{rules}
+use Rattle.sessions.proofs.Holds.{open_holds}
+use Rattle.sessions.proofs.session.open.Goals as goal
+
+pub returns : goal.returns
+returns c = open_holds _ c.opening-st.ensures refl refl

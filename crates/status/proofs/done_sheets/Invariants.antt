@@ -1,0 +1,16 @@
+use native.Mathlib.Omega.{arith}
+use borrow.Author.Rules.{rules}
+use Rattle.heads.specs.Heads.{sheets_of}
+use Rattle.engine.proofs.Worklists.{head_length}
+use Rattle.status.proofs.Counts.{mask_more, mask_none}
+use Rattle.status.proofs.Status.{few_sheets}
+use mathlib.Core.Path.{◌≡◌, sym}
+use Prim.Native.Nat.{◌-◌, ◌<◌, ◌≤◌}
+use Rattle.status.specs.Status.{done_sheets}
+use Rattle.status.proofs.done_sheets.Given as goal
+
+abbrev pub invariant-loop-s : goal.invariant-loop-s
+invariant-loop-s l = (l.s ≤ l.n) × (l.m ≡ done_sheets l.book l.dom l.s)
+
+abbrev pub decreases-loop-s : goal.decreases-loop-s
+decreases-loop-s l = l.n - l.s

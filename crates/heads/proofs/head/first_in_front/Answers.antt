@@ -8,19 +8,19 @@ pub returns-then-wrong_letters : goal.returns-then-wrong_letters
 returns-then-wrong_letters c = first_in_found (search rules) (search rules) (none_empty (le_refl _)) (field_letters c.args.h.now ∙ sym c.wrong_letters.ensures ∙ c.if-wrong_letters.true)
 
 pub returns-then-wrong_columns : goal.returns-then-wrong_columns
-returns-then-wrong_columns c =     let b = c.args.h.now in
+returns-then-wrong_columns c = let b = c.args.h.now in
     first_in_found (search rules) (search rules)
     (right_letters b (sym c.wrong_letters.ensures ∙ c.if-wrong_letters.false))
     (field_columns b ∙ sym c.wrong_columns.ensures ∙ c.if-wrong_columns.true)
 
 pub returns-then-wrong_sheets : goal.returns-then-wrong_sheets
-returns-then-wrong_sheets c =     let b = c.args.h.now in
+returns-then-wrong_sheets c = let b = c.args.h.now in
     first_in_found (search rules) (search rules)
     (none_more (right_letters b (sym c.wrong_letters.ensures ∙ c.if-wrong_letters.false)) (field_columns b ∙ sym c.wrong_columns.ensures ∙ c.if-wrong_columns.false))
     (field_sheets b ∙ sym c.wrong_sheets.ensures ∙ c.if-wrong_sheets.true)
 
 pub returns : goal.returns
-returns c =     let b = c.args.h.now in
+returns c = let b = c.args.h.now in
     first_in_join (search rules)
     (none_more
     (none_more (right_letters b (sym c.wrong_letters.ensures ∙ c.if-wrong_letters.false)) (field_columns b ∙ sym c.wrong_columns.ensures ∙ c.if-wrong_columns.false))

@@ -18,15 +18,15 @@ bounds-dom-c c =
     sixteen
 
 pub returns-then-e-d : goal.returns-then-e-d
-returns-then-e-d c =     let p = c.requires in
+returns-then-e-d c = let p = c.requires in
     state_same _ p.0.accepted _ _ p.1 _ c.if-e-d.true
 
 pub returns-then-e-eq0 : goal.returns-then-e-eq0
-returns-then-e-eq0 c =     let p = c.requires in
+returns-then-e-eq0 c = let p = c.requires in
     state_emptied _ p.0.accepted _ _ p.1 _ _ c.failed.ensures c.if-e-eq0.true
 
 pub propagated-requires : goal.propagated-requires
-propagated-requires c =     let p = c.requires in
+propagated-requires c = let p = c.requires in
     (p.0, p.1, p.2, positive _ c.if-e-eq0.false)
 
 pub returns : goal.returns

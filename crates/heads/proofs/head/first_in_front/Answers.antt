@@ -1,4 +1,4 @@
--- The first wrong field of bytes 0 to 7, one test after the other. Each test and each branch is one `.before`: a new field moves those behind it.
+-- The first wrong field of bytes 0 to 7, one test after the other. Each way out is a goal, called by its test: a new field brings one more.
 use Rattle.std.proofs.Common.{sym, ◌∙◌, le_refl, rules}
 use Rattle.model.proofs.Firsts.{first_in_found, first_in_join, first_in_same, none_empty, none_more}
 use Rattle.heads.proofs.Heads.{field_columns, field_letters, field_sheets, field_zero, right_letters}

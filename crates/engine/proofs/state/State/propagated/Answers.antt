@@ -1,5 +1,5 @@
--- As in the proof of `narrowed`. The first six facts: `dom[c]` lies in its array, `1u32 << c` in 32 bits. Then what `propagate` requires
--- (narrow_ready), and what the state is when it is over (state_propagated).
+-- As in the proof of `narrowed`. The first six goals: `dom[c]` lies in its array, `1u32 << c` in 32 bits. Then what `propagate` requires
+-- (`narrow_ready`), and what the state is when it is over (`state_propagated`).
 use Prim.Native.Nat.{◌<◌}
 use native.Mathlib.Omega.{arith}
 use borrow.Author.Rules.{rules}

@@ -4,7 +4,7 @@ use Rattle.lines.proofs.Written.{written_then, printed_refused, printed_accepted
 use Rattle.lines.proofs.print.Goals as goal
 
 pub returns-then-number-ge65536 : goal.returns-then-number-ge65536
-returns-then-number-ge65536 c =     let w = c.Put-refused.ensures in
+returns-then-number-ge65536 c =     let w = c.put_refused.ensures in
     let e = printed_refused c.args.number c.args.columns c.args.n c.args.answers.now c.if-number-ge65536.true in
     (w.bytes ∙ e, w.within, w.size)
 

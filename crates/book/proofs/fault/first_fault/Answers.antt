@@ -12,7 +12,7 @@ use Rattle.heads.proofs.Heads.{sheets_most}
 use Rattle.book.proofs.fault.first_fault.Goals as goal
 
 pub loop-s-init : goal.loop-s-init
-loop-s-init c =     (search rules, c.First-Block.ensures.0, c.first_doubt-s.ensures.1)
+loop-s-init c =     (search rules, c.first_block-start.ensures.0, c.first_doubt-s.ensures.1)
 
 pub sheets-n-requires : goal.sheets-n-requires
 sheets-n-requires c = head_there _ c.requires.0

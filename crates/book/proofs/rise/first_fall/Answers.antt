@@ -16,17 +16,17 @@ sheets-n-requires c = head_there _ c.requires.0
 pub loop-s-init : goal.loop-s-init
 loop-s-init c = (omega arith, none_empty (omega arith))
 
--- LEFT: -- the sheet of this turn is one of the S
--- LEFT: one : (h : tie.At-loop invariant-loop decreases-loop) → h.loop.s < h.before.sheets.result → h.loop.s < sheets_of h.before.before.before.args.book.now
--- LEFT: one h l = omega (arith, l, h.before.sheets.ensures.0)
-
+-- the sheet of this turn is one of the S
 pub fall_in_sheet-f-requires : goal.fall_in_sheet-f-requires
-fall_in_sheet-f-requires c =     let p = c.requires in
-    (p.0, p.1, p.2, one c c.loop-s-test.true)
+fall_in_sheet-f-requires c =
+    let one : c.loop-s.s < sheets_of c.args.book.now = omega (arith, c.loop-s-test.true, c.sheets-n.ensures.0) in
+    let p = c.requires in (p.0, p.1, p.2, one)
 
 pub returns-then-f-ne0 : goal.returns-then-f-ne0
-returns-then-f-ne0 c =     c.fall_in_sheet-f.ensures
-    ∙ sym (fall_found _ _ (one c c.loop-s-test.true) c.loop-s.invariant.1 (λ e. c.if-f-ne0.true (c.fall_in_sheet-f.ensures ∙ e)))
+returns-then-f-ne0 c =
+    let one : c.loop-s.s < sheets_of c.args.book.now = omega (arith, c.loop-s-test.true, c.sheets-n.ensures.0) in
+    c.fall_in_sheet-f.ensures
+    ∙ sym (fall_found _ _ one c.loop-s.invariant.1 (λ e. c.if-f-ne0.true (c.fall_in_sheet-f.ensures ∙ e)))
 
 pub loop-s-preserved : goal.loop-s-preserved
 loop-s-preserved c =     (search rules, none_more c.loop-s.invariant.1 (no_sheet_fall _ _ (sym c.fall_in_sheet-f.ensures ∙ c.if-f-ne0.false)))

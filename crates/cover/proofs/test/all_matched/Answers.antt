@@ -18,12 +18,12 @@ pub put_sheet-requires : goal.put_sheet-requires
 put_sheet-requires c =     (c.requires.0, c.requires.1, bit_below 32 _ _ (c.requires.2.fits 3) (c.loop-left.invariant.part.at _ c.lowest-v.ensures.2), no_rows)
 
 pub returns-then-not-allows_all : goal.returns-then-not-allows_all
-returns-then-not-allows_all c =     one_missed c.requires.0 c.requires.1 c.lowest-v.result c.put_sheet.ensures c.requires.2 c.allows_all.ensures (not-true _ c.if-not-allows_all.true)
+returns-then-not-allows_all c =     one_missed c.requires.0 c.requires.1 c.lowest-v.result c.put_sheet.ensures c.requires.2 c.allows_all.ensures (c.if-not-allows_all.true)
     (c.loop-left.invariant.part.at _ c.lowest-v.ensures.2)
 
 pub loop-left-preserved : goal.loop-left-preserved
 loop-left-preserved c =     tried_turn c.loop-left.invariant (cleared_at c.lowest-v.ensures.0 c.without_lowest-left.ensures.0)
-    (each_matched c.requires.0 c.requires.1 c.lowest-v.result c.put_sheet.ensures c.requires.2 c.allows_all.ensures (not-false _ c.if-not-allows_all.false))
+    (each_matched c.requires.0 c.requires.1 c.lowest-v.result c.put_sheet.ensures c.requires.2 c.allows_all.ensures (c.if-not-allows_all.false))
 
 pub returns : goal.returns
 returns c = every_matched (tried_all c.loop-left-test.false c.loop-left.invariant)

@@ -9,7 +9,7 @@ use Rattle.faults.proofs.wrong.seek_wrong.Goals as goal
 
 pub loop-i-init : goal.loop-i-init
 loop-i-init c =     let m = c.args.m in
-    let r = c.rows_Under.ensures in
+    let r = c.rows_under-i.ensures in
     (search rules, rows_right m.w m.x m.y m.z m.k _ _ _ r.0 r.1)
 
 pub returns-then-wrong_in : goal.returns-then-wrong_in

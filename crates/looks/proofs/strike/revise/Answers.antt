@@ -23,7 +23,7 @@ cut_places-cut-requires c = let p = c.requires in (p.0, (rows_known p.0 p.1 p.2)
 pub returns-then-not-forbids-cut : goal.returns-then-not-forbids-cut
 returns-then-not-forbids-cut c =     let p = c.requires in
     let e = c.cut_places-cut.ensures.0 in
-    let q = not-true _ c.if-not-forbids-cut.true in
+    let q = c.if-not-forbids-cut.true in
     let f = c.cut_places-cut.ensures.1 (or_false_r c.forbids-forbids.result _ q) in
     rw (c.seen_as.ensures.0, c.seen_as.ensures.1)
     (revised_same p.0 (kind c false (or_false_l _ _ q)) p.3 (cut_known p.0 _ _ (rows_known p.0 p.1 p.2) e) e.only p.1 f.0 f.1)
@@ -34,7 +34,7 @@ bounds-nonzero-s c = eight c.requires.0
 pub returns-then-not-forbids-nonzero : goal.returns-then-not-forbids-nonzero
 returns-then-not-forbids-nonzero c =     let p = c.requires in
     let e = c.cut_places-cut.ensures.0 in
-    let q = not-true _ c.if-not-forbids-nonzero.true in
+    let q = c.if-not-forbids-nonzero.true in
     let none = eqb-true _ _ (not-false _ (or_false_r c.forbids-forbids.result _ q)) in
     rw (c.seen_as-then-not-forbids-nonzero.ensures.0, c.seen_as-then-not-forbids-nonzero.ensures.1)
     (revised_none p.0 (kind c false (or_false_l _ _ q)) p.3 (cut_known p.0 _ _ (rows_known p.0 p.1 p.2) e) e.only none)
@@ -47,7 +47,7 @@ strike-lost-requires c =     let p = c.requires in
 pub returns-then-not-forbids : goal.returns-then-not-forbids
 returns-then-not-forbids c =     let p = c.requires in
     let e = c.cut_places-cut.ensures.0 in
-    let plain = not-true _ c.if-not-forbids.true in
+    let plain = c.if-not-forbids.true in
     let some = some_there c.forbids-forbids.result plain c.if-not-forbids-nonzero.false in
     rw (c.seen_as-then-not-forbids.ensures.0, c.seen_as-then-not-forbids.ensures.1)
     (revised_carried p.0 (kind c false plain) p.3 (cut_known p.0 _ _ (rows_known p.0 p.1 p.2) e) e.only c.strike-lost.ensures some)
@@ -67,7 +67,7 @@ returns-then-dom-c-eq0 c =     let p = c.requires in
 pub cut_struck-requires : goal.cut_struck-requires
 cut_struck-requires c =     let p = c.requires in
     let h = cut_known p.0 _ _ (rows_known p.0 p.1 p.2) c.cut_places-cut.ensures.0 in
-    (p.0, kind c true (not-false _ c.if-not-forbids.false), c.strike-lost.ensures.loses.store, struck_known p.0 p.3 c.strike-lost.ensures h)
+    (p.0, kind c true (c.if-not-forbids.false), c.strike-lost.ensures.loses.store, struck_known p.0 p.3 c.strike-lost.ensures h)
 
 pub returns : goal.returns
 returns c =     let p = c.requires in

@@ -11,7 +11,7 @@ loop-i-init c = (search rules, rw high_zero (finds_empty (le_refl _)))
 
 pub loop-i-preserved : goal.loop-i-preserved
 loop-i-preserved c =     let k = c.args in
-    (search rules, rw (turned_more k.b.now k.o k.slack c.loop-i.i _ _ _ _ c.word_at.ensures c.turn-t.ensures c.wrapping_add_u32.ensures) (finds_more _ (search rules) c.loop-i.invariant.1))
+    (search rules, rw (turned_more k.b.now k.o k.slack c.loop-i.i _ _ _ _ c.word_at.ensures c.turn-t.ensures c.wrapping_add_u32.ensures.value) (finds_more _ (search rules) c.loop-i.invariant.1))
 
 pub returns : goal.returns
 returns c = let e : c.loop-i.i ≡ 127 = omega arith in rw c.any_high.ensures (rw e at c.loop-i.invariant.1)

@@ -1,6 +1,5 @@
-use Rattle.std.proofs.Common.{◌≡◌, ◌-◌, [], ◌++◌, length, take, drop, decimal, ◌∙◌, append-nil, take_all, arith, rules, length-drop}
+use Rattle.std.proofs.Common.{◌≡◌, ◌-◌, take, drop, decimal, ◌∙◌, append-nil, take_all, arith, rules, length-drop}
 use Rattle.std.proofs.lemmas.Fmt.{length-decimal-le}
-use Rattle.lines.specs.Texts.{number}
 use Rattle.lines.proofs.Texts.{decimal_number, number_short}
 use Rattle.lines.proofs.Written.{written_as, written_short}
 use Rattle.lines.proofs.put_number.Goals as goal

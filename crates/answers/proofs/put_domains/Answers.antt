@@ -15,7 +15,7 @@ pub loop-c-preserved : goal.loop-c-preserved
 loop-c-preserved c =     let loop = c.loop-c in
     (
       search rules,
-      c.put_word.auto.0 ∙ loop.invariant.1,
+      c.put_word.auto.out ∙ loop.invariant.1,
       domains_more c.args.out.now c.args.shown.now loop.c _ c.requires c.loop-c-test.true loop.invariant.2 c.put_word.ensures (omega arith),
     )
 

@@ -24,7 +24,7 @@ pub put_half-requires : goal.put_half-requires
 put_half-requires c = simp length-set (omega arith)
 
 pub shape_of-out : goal.shape_of-out
-shape_of-out c = c.put_half.kept.0 ∙ simp length-set
+shape_of-out c = c.put_half.auto.out ∙ simp length-set
 
 pub returns : goal.returns
 returns c =     head_stored c.args.out.now c.args.tries (omega (arith, c.requires)) (omega arith) (omega arith) (omega arith) (omega arith) (omega arith) c.put_half.ensures

@@ -8,5 +8,5 @@ pub put_answer-requires : goal.put_answer-requires
 put_answer-requires c = simp (length-take, length-drop) (omega arith)
 
 pub returns : goal.returns
-returns c =     let h = c.put_answer.kept.0 in
+returns c =     let h = c.put_answer.auto.out in
     rw part_over (over_same _ (omega arith) c.put_answer.ensures)

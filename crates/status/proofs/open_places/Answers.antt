@@ -12,6 +12,7 @@ use Rattle.words.proofs.Places.{column_below, eight, head_there, width_most}
 use Rattle.status.specs.Status.{is_many, open_places}
 use Rattle.status.proofs.Counts.{one_more, one_less}
 use Rattle.status.proofs.open_places.Goals as goal
+use Rattle.status.proofs.open_places.Goals.{then-sizes-c-gt1, else-sizes-c-gt1}
 
 pub width-k-requires : goal.width-k-requires
 width-k-requires c = (head_there c.requires.0, eight c.requires.0)
@@ -36,17 +37,16 @@ overflow_add-n c =
     let below-4 : c.loop-j.j < 4 = let inside : c.loop-j.j < width_of c.args.book.now c.args.s = omega (arith, c.loop-j-test.true, c.width-k.ensures.0) in omega (arith, inside, (width_most c.requires.0).1) in
     let l = c.loop-j in
     let most = count_most l.j (λ j. is_many c.args.sizes.now (column_of c.args.book.now c.args.s j)) in
-    omega (arith, l.inv.0, most, below-4)
+    omega (arith, l.invariant.0, most, below-4)
 
 pub loop-j-preserved : goal.loop-j-preserved
 loop-j-preserved c =     let Z = c.args.sizes.now in
     let l = c.loop-j in
     let e = c.column-c.ensures.0 in (
-      ⊎_elim (λ w. w.1 ∙ one_more l.j _ l.inv.0 (lt-ltb 1 _ (rw e at w.0.taken)))
-          (λ w.
-          let few : get_or Z c.column-c.result 0 ≤ 1 = omega (arith, w.0.left) in
-          w.1 ∙ one_less l.j _ l.inv.0 (le-ltb 1 _ (rw e at few)))
-          c.if-sizes-c-gt1.branch,
+      elim c.if-sizes-c-gt1.branch [
+        then-sizes-c-gt1 w ↦ w.n-is ∙ one_more l.j _ l.invariant.0 (lt-ltb 1 _ (rw e at w.if-sizes-c-gt1.true))
+        | else-sizes-c-gt1 w ↦ let few : get_or Z c.column-c.result 0 ≤ 1 = omega (arith, w.if-sizes-c-gt1.false) in w.n-is ∙ one_less l.j _ l.invariant.0 (le-ltb 1 _ (rw e at few))
+      ],
       omega (arith, c.loop-j-test.true),
     )
 

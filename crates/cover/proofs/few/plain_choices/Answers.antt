@@ -9,6 +9,7 @@ use Rattle.words.proofs.Places.{column_below, eight, head_there, width_most}
 use Rattle.cover.specs.Covers.{plain_in}
 use Rattle.cover.proofs.Fewer.{plain_free, plain_most, plain_short}
 use Rattle.cover.proofs.few.plain_choices.Goals as goal
+use Rattle.cover.proofs.few.plain_choices.Goals.{then-shorts-j-eq0, else-shorts-j-eq0}
 
 pub width-k-requires : goal.width-k-requires
 width-k-requires c = (head_there c.requires.0, eight c.requires.0)
@@ -60,10 +61,10 @@ overflow_mul-n c =
 
 pub loop-j-preserved : goal.loop-j-preserved
 loop-j-preserved c =     (
-      ⊎_elim
-          (λ w. w.3 ∙ plain_free c.requires.0 _ _ c.loop-j.j (bit_not _ _ _ refl (λ z. omega (arith, w.0.taken))) w.1.ensures.0 c.loop-j.invariant.0)
-          (λ w. w.1 ∙ plain_short c.requires.0 _ _ c.loop-j.j (bit_is _ _ _ refl (omega (arith, w.0.left))) c.loop-j.invariant.0)
-          c.if-shorts-j-eq0.branch,
+      elim c.if-shorts-j-eq0.branch [
+        then-shorts-j-eq0 w ↦ w.n-is ∙ plain_free c.requires.0 _ _ c.loop-j.j (bit_not _ _ _ refl (λ z. omega (arith, w.if-shorts-j-eq0.true))) w.column-c.ensures.0 c.loop-j.invariant.0
+        | else-shorts-j-eq0 w ↦ w.n-is ∙ plain_short c.requires.0 _ _ c.loop-j.j (bit_is _ _ _ refl (omega (arith, w.if-shorts-j-eq0.false))) c.loop-j.invariant.0
+      ],
       omega (arith, c.loop-j-test.true),
     )
 

@@ -21,7 +21,7 @@ revise-look-requires c =     let p = c.requires in
 
 pub returns-then-not-look : goal.returns-then-not-look
 returns-then-not-look c =     let p = c.requires in
-    going_failed _ p.0.accepted p.0 c.loop-left.invariant c.first_waiting-s.ensures.2 c.revise-look.ensures (c.if-not-look.true)
+    going_failed _ p.0.accepted p.0 c.loop-left.invariant c.first_waiting-s.ensures.2 c.revise-look.ensures (not-true _ c.if-not-look.true)
 
 pub wake-left-requires : goal.wake-left-requires
 wake-left-requires c =     (
@@ -33,16 +33,16 @@ wake-left-requires c =     (
 
 pub loop-left-smaller : goal.loop-left-smaller
 loop-left-smaller c =
-    let cleared : Cleared c.loop-left.true c.others.result c.first_waiting-s.result = cleared_at c.first_waiting-s.ensures.0 c.others.ensures.0 in
+    let cleared : Cleared c.loop-left.left c.others.result c.first_waiting-s.result = cleared_at c.first_waiting-s.ensures.0 c.others.ensures.0 in
     let p = c.requires in
-    going_less _ p.0.accepted p.0 c.loop-left.invariant c.first_waiting-s.ensures.2 c.revise-look.ensures cleared (c.if-not-look.false)
+    going_less _ p.0.accepted p.0 c.loop-left.invariant c.first_waiting-s.ensures.2 c.revise-look.ensures cleared (not-false _ c.if-not-look.false)
     (omega (arith, c.others.ensures.1, c.loop-left.invariant.small)) c.wake-left.ensures c.others.ensures.1
 
 pub loop-left-preserved : goal.loop-left-preserved
 loop-left-preserved c =
-    let cleared : Cleared c.loop-left.true c.others.result c.first_waiting-s.result = cleared_at c.first_waiting-s.ensures.0 c.others.ensures.0 in
+    let cleared : Cleared c.loop-left.left c.others.result c.first_waiting-s.result = cleared_at c.first_waiting-s.ensures.0 c.others.ensures.0 in
     let p = c.requires in
-    going_on _ p.0.accepted p.0 c.loop-left.invariant c.first_waiting-s.ensures.2 c.revise-look.ensures cleared (c.if-not-look.false)
+    going_on _ p.0.accepted p.0 c.loop-left.invariant c.first_waiting-s.ensures.2 c.revise-look.ensures cleared (not-false _ c.if-not-look.false)
     (omega (arith, c.others.ensures.1, c.loop-left.invariant.small)) c.wake-left.ensures
 
 pub returns : goal.returns

@@ -1,5 +1,5 @@
-use mathlib.Core.Path.{◌∙◌, ◌≡◌, sym}
-use mathlib.Core.Bool.{Bool, false, true}
+use mathlib.Core.Path.{◌∙◌, ◌≡◌, ap, sym}
+use mathlib.Core.Bool.{Bool, false, not, true}
 use native.Mathlib.Omega.{arith}
 use borrow.Author.Rules.{rules}
 use borrow.Author.Tests.{eqb-true, not-false, not-true}
@@ -16,17 +16,13 @@ forbids-forbids-requires c = (head_there c.requires.0, eight c.requires.0)
 pub cut_places-cut-requires : goal.cut_places-cut-requires
 cut_places-cut-requires c = let p = c.requires in (p.0, (rows_known p.0 p.1 p.2).words)
 
--- LEFT: -- the sheet's kind, as the tests have it
--- LEFT: kind : (t : tie.After-forbids) (r : Bool) → t.forbids.result ≡ r → forbids_of t.before.before.args.book.now t.before.before.args.s ≡ r
--- LEFT: kind t r e = sym t.forbids.ensures ∙ e
-
 pub returns-then-not-forbids-cut : goal.returns-then-not-forbids-cut
 returns-then-not-forbids-cut c =     let p = c.requires in
     let e = c.cut_places-cut.ensures.0 in
     let q = c.if-not-forbids-cut.true in
     let f = c.cut_places-cut.ensures.1 (or_false_r c.forbids-forbids.result _ q) in
     rw (c.seen_as.ensures.0, c.seen_as.ensures.1)
-    (revised_same p.0 (kind c false (or_false_l _ _ q)) p.3 (cut_known p.0 _ _ (rows_known p.0 p.1 p.2) e) e.only p.1 f.0 f.1)
+    (revised_same p.0 (sym c.forbids-forbids.ensures ∙ or_false_l _ _ q) p.3 (cut_known p.0 _ _ (rows_known p.0 p.1 p.2) e) e.only p.1 f.0 f.1)
 
 pub bounds-nonzero-s : goal.bounds-nonzero-s
 bounds-nonzero-s c = eight c.requires.0
@@ -37,7 +33,7 @@ returns-then-not-forbids-nonzero c =     let p = c.requires in
     let q = c.if-not-forbids-nonzero.true in
     let none = eqb-true _ _ (not-false _ (or_false_r c.forbids-forbids.result _ q)) in
     rw (c.seen_as-then-not-forbids-nonzero.ensures.0, c.seen_as-then-not-forbids-nonzero.ensures.1)
-    (revised_none p.0 (kind c false (or_false_l _ _ q)) p.3 (cut_known p.0 _ _ (rows_known p.0 p.1 p.2) e) e.only none)
+    (revised_none p.0 (sym c.forbids-forbids.ensures ∙ or_false_l _ _ q) p.3 (cut_known p.0 _ _ (rows_known p.0 p.1 p.2) e) e.only none)
 
 pub strike-lost-requires : goal.strike-lost-requires
 strike-lost-requires c =     let p = c.requires in
@@ -48,9 +44,9 @@ pub returns-then-not-forbids : goal.returns-then-not-forbids
 returns-then-not-forbids c =     let p = c.requires in
     let e = c.cut_places-cut.ensures.0 in
     let plain = c.if-not-forbids.true in
-    let some = some_there c.forbids-forbids.result plain c.if-not-forbids-nonzero.false in
+    let some = some_there c.forbids-forbids.result plain (ap not c.if-not-forbids-nonzero.false) in
     rw (c.seen_as-then-not-forbids.ensures.0, c.seen_as-then-not-forbids.ensures.1)
-    (revised_carried p.0 (kind c false plain) p.3 (cut_known p.0 _ _ (rows_known p.0 p.1 p.2) e) e.only c.strike-lost.ensures some)
+    (revised_carried p.0 (sym c.forbids-forbids.ensures ∙ plain) p.3 (cut_known p.0 _ _ (rows_known p.0 p.1 p.2) e) e.only c.strike-lost.ensures some)
 
 pub column-c-requires : goal.column-c-requires
 column-c-requires c = let p = c.requires in (head_there p.0, eight p.0, search rules)
@@ -67,7 +63,7 @@ returns-then-dom-c-eq0 c =     let p = c.requires in
 pub cut_struck-requires : goal.cut_struck-requires
 cut_struck-requires c =     let p = c.requires in
     let h = cut_known p.0 _ _ (rows_known p.0 p.1 p.2) c.cut_places-cut.ensures.0 in
-    (p.0, kind c true (c.if-not-forbids.false), c.strike-lost.ensures.loses.store, struck_known p.0 p.3 c.strike-lost.ensures h)
+    (p.0, sym c.forbids-forbids.ensures ∙ c.if-not-forbids.false, c.strike-lost.ensures.loses.store, struck_known p.0 p.3 c.strike-lost.ensures h)
 
 pub returns : goal.returns
 returns c =     let p = c.requires in

@@ -13,4 +13,4 @@ pub returns-then-kind-eq4 : goal.returns-then-kind-eq4
 returns-then-kind-eq4 c = told_same c.args.order.now (inr c.if-kind-eq4.true)
 
 pub returns : goal.returns
-returns c = c.summarise.ensures _ s
+returns c = λ L e h s. c.summarise.ensures _ s

@@ -19,6 +19,7 @@ use Rattle.runs.specs.Runs.{RanTo}
 use Rattle.runs.proofs.Results.{right_list}
 use Rattle.runs.proofs.Runs.{counts_none, counts_one, depth_small, more, opened_long, opened_ran, ran_few, ran_from, ran_room, refuses_small, says_more}
 use Rattle.runs.proofs.run.run_orders.Goals as goal
+use Rattle.runs.proofs.run.run_orders.Goals.{then-r-eq0+then-order-eq1, then-r-eq0+else-order-eq1+then-order-eq2, then-r-eq0+else-order-eq1+else-order-eq2+then-order-eq3, then-r-eq0+else-order-eq1+else-order-eq2+else-order-eq3, else-r-eq0}
 
 pub show_opening-told-requires : goal.show_opening-told-requires
 show_opening-told-requires c =     (laid_sheets c.lay_out.ensures, record { trail = _; is = c.open-s.ensures.current }, omega (arith, c.requires.enough))
@@ -44,16 +45,14 @@ overflow_mul-order-in-loop-i c = let l = right_list _ c.requires.list in omega (
 pub overflow_add-order : goal.overflow_add-order
 overflow_add-order c = let l = right_list _ c.requires.list in omega (arith, c.loop-i-test.true)
 
--- LEFT: abbrev bytes : tie.After-refusal invariant-loop decreases-loop → List ℕ
--- LEFT: bytes c = let i = (head c).loop.i in take (8 * i + 8 - 8 * i) (drop (8 * i) (start c).args.orders.now)
-
+-- ---- an order's turn, once its refusal is known
 pub overflow_add-i : goal.overflow_add-i
 overflow_add-i c =
     let turn : (c.loop-i.i + 1 ≤ 256) × (72 * (c.loop-i.i + 1) + 72 ≤ length c.loop-i.answers) × (c.refusal-r.result < 256) × (c.loop-i.s.depth ≤ 16) = let test = c.loop-i-test.true in
     let l = c.loop-i in
-    let h = l.inv.0 in (
+    let h = l.invariant.0 in (
       omega (arith, test, right_list _ c.requires.list),
-      omega (arith, test, l.inv.2, ran_room _ _ _ h (omega (arith, l.inv.1, l.inv.2))),
+      omega (arith, test, l.invariant.2, ran_room _ _ _ h (omega (arith, l.invariant.1, l.invariant.2))),
       refuses_small _ h.holds (c.refusal-r.ensures _ refl),
       depth_small h.holds,
     ) in
@@ -63,9 +62,9 @@ pub overflow_add-accepted : goal.overflow_add-accepted
 overflow_add-accepted c =
     let turn : (c.loop-i.i + 1 ≤ 256) × (72 * (c.loop-i.i + 1) + 72 ≤ length c.loop-i.answers) × (c.refusal-r.result < 256) × (c.loop-i.s.depth ≤ 16) = let test = c.loop-i-test.true in
     let l = c.loop-i in
-    let h = l.inv.0 in (
+    let h = l.invariant.0 in (
       omega (arith, test, right_list _ c.requires.list),
-      omega (arith, test, l.inv.2, ran_room _ _ _ h (omega (arith, l.inv.1, l.inv.2))),
+      omega (arith, test, l.invariant.2, ran_room _ _ _ h (omega (arith, l.invariant.1, l.invariant.2))),
       refuses_small _ h.holds (c.refusal-r.ensures _ refl),
       depth_small h.holds,
     ) in
@@ -93,26 +92,27 @@ pub show_order-told-requires : goal.show_order-told-requires
 show_order-told-requires c =
     let turn : (c.loop-i.i + 1 ≤ 256) × (72 * (c.loop-i.i + 1) + 72 ≤ length c.loop-i.answers) × (c.refusal-r.result < 256) × (c.loop-i.s.depth ≤ 16) = let test = c.loop-i-test.true in
     let l = c.loop-i in
-    let h = l.inv.0 in (
+    let h = l.invariant.0 in (
       omega (arith, test, right_list _ c.requires.list),
-      omega (arith, test, l.inv.2, ran_room _ _ _ h (omega (arith, l.inv.1, l.inv.2))),
+      omega (arith, test, l.invariant.2, ran_room _ _ _ h (omega (arith, l.invariant.1, l.invariant.2))),
       refuses_small _ h.holds (c.refusal-r.ensures _ refl),
       depth_small h.holds,
     ) in
     let some : SomeSession c.args.book.now c.loop-i.s = record { trail = _; holds = c.loop-i.invariant.0.holds } in
-    let stepped : Stepped c.args.book.now c.loop-i.s (bytes c) c.if-r-eq0.s × (c.if-r-eq0.accepted ≡ c.loop-i.accepted + one_if (eqb c.refusal-r.result 0)) = let f = c.refusal-r.ensures c.loop-i.s refl in
-    ⊎_elim (λ w. (
-      rw w.10 (step_narrow _ _ _ f w.0.taken _ w.2.taken w.4.ensures.0 w.5.ensures w.9.ensures),
-      w.11 ∙ counts_one _ w.0.taken,
-    ))
-    (⊎_elim (λ w. (rw w.6 (step_mark _ _ _ f w.0.taken _ w.4.taken w.5.ensures), w.7 ∙ counts_one _ w.0.taken))
-    (⊎_elim (λ w. (
-      rw w.10 (step_back _ _ _ f w.0.taken _ w.6.taken w.8.ensures.0 w.9.ensures),
-      w.11 ∙ counts_one _ w.0.taken,
-    ))
-    (⊎_elim (λ w. (rw w.7 (step_other _ _ _ f w.0.taken w.2.left w.4.left w.6.left), w.8 ∙ counts_one _ w.0.taken))
-    (λ w. (rw w.1 (step_refused _ _ _ f w.0.left), w.2 ∙ counts_none _ w.0.left)))))
-    c.if-r-eq0.branch in
+    let stepped : Stepped c.args.book.now c.loop-i.s (take (8 * c.loop-i.i + 8 - 8 * c.loop-i.i) (drop (8 * c.loop-i.i) c.args.orders.now)) c.if-r-eq0.s
+        × (c.if-r-eq0.accepted ≡ c.loop-i.accepted + one_if (eqb c.refusal-r.result 0)) =
+      let f = c.refusal-r.ensures c.loop-i.s refl in
+      elim c.if-r-eq0.branch [
+        then-r-eq0+then-order-eq1 w ↦
+          (rw w.s-is (step_narrow _ _ _ f w.if-r-eq0.true _ w.if-order-eq1.true w.wide-c.ensures.0 w.mask_of-m.ensures w.narrow-s.ensures), w.accepted-is ∙ counts_one _ w.if-r-eq0.true)
+        | then-r-eq0+else-order-eq1+then-order-eq2 w ↦
+          (rw w.s-is (step_mark _ _ _ f w.if-r-eq0.true _ w.if-order-eq2.true w.mark-s.ensures), w.accepted-is ∙ counts_one _ w.if-r-eq0.true)
+        | then-r-eq0+else-order-eq1+else-order-eq2+then-order-eq3 w ↦
+          (rw w.s-is (step_back _ _ _ f w.if-r-eq0.true _ w.if-order-eq3.true w.wide.ensures.0 w.back-s.ensures), w.accepted-is ∙ counts_one _ w.if-r-eq0.true)
+        | then-r-eq0+else-order-eq1+else-order-eq2+else-order-eq3 w ↦
+          (rw w.s-is (step_other _ _ _ f w.if-r-eq0.true w.if-order-eq1.false w.if-order-eq2.false w.if-order-eq3.false), w.accepted-is ∙ counts_one _ w.if-r-eq0.true)
+        | else-r-eq0 w ↦ (rw w.s-is (step_refused _ _ _ f w.if-r-eq0.false), w.accepted-is ∙ counts_none _ w.if-r-eq0.false)
+      ] in
     let q = turn in
     let h = stepped.0.holds _ some.holds in (
       c.lay_out.ensures,
@@ -126,29 +126,30 @@ show_order-told-requires c =
 
 pub loop-i-preserved : goal.loop-i-preserved
 loop-i-preserved c =
-    let stepped : Stepped c.args.book.now c.loop-i.s (bytes c) c.if-r-eq0.s × (c.if-r-eq0.accepted ≡ c.loop-i.accepted + one_if (eqb c.refusal-r.result 0)) = let f = c.refusal-r.ensures c.loop-i.s refl in
-    ⊎_elim (λ w. (
-      rw w.10 (step_narrow _ _ _ f w.0.taken _ w.2.taken w.4.ensures.0 w.5.ensures w.9.ensures),
-      w.11 ∙ counts_one _ w.0.taken,
-    ))
-    (⊎_elim (λ w. (rw w.6 (step_mark _ _ _ f w.0.taken _ w.4.taken w.5.ensures), w.7 ∙ counts_one _ w.0.taken))
-    (⊎_elim (λ w. (
-      rw w.10 (step_back _ _ _ f w.0.taken _ w.6.taken w.8.ensures.0 w.9.ensures),
-      w.11 ∙ counts_one _ w.0.taken,
-    ))
-    (⊎_elim (λ w. (rw w.7 (step_other _ _ _ f w.0.taken w.2.left w.4.left w.6.left), w.8 ∙ counts_one _ w.0.taken))
-    (λ w. (rw w.1 (step_refused _ _ _ f w.0.left), w.2 ∙ counts_none _ w.0.left)))))
-    c.if-r-eq0.branch in
+    let stepped : Stepped c.args.book.now c.loop-i.s (take (8 * c.loop-i.i + 8 - 8 * c.loop-i.i) (drop (8 * c.loop-i.i) c.args.orders.now)) c.if-r-eq0.s
+        × (c.if-r-eq0.accepted ≡ c.loop-i.accepted + one_if (eqb c.refusal-r.result 0)) =
+      let f = c.refusal-r.ensures c.loop-i.s refl in
+      elim c.if-r-eq0.branch [
+        then-r-eq0+then-order-eq1 w ↦
+          (rw w.s-is (step_narrow _ _ _ f w.if-r-eq0.true _ w.if-order-eq1.true w.wide-c.ensures.0 w.mask_of-m.ensures w.narrow-s.ensures), w.accepted-is ∙ counts_one _ w.if-r-eq0.true)
+        | then-r-eq0+else-order-eq1+then-order-eq2 w ↦
+          (rw w.s-is (step_mark _ _ _ f w.if-r-eq0.true _ w.if-order-eq2.true w.mark-s.ensures), w.accepted-is ∙ counts_one _ w.if-r-eq0.true)
+        | then-r-eq0+else-order-eq1+else-order-eq2+then-order-eq3 w ↦
+          (rw w.s-is (step_back _ _ _ f w.if-r-eq0.true _ w.if-order-eq3.true w.wide.ensures.0 w.back-s.ensures), w.accepted-is ∙ counts_one _ w.if-r-eq0.true)
+        | then-r-eq0+else-order-eq1+else-order-eq2+else-order-eq3 w ↦
+          (rw w.s-is (step_other _ _ _ f w.if-r-eq0.true w.if-order-eq1.false w.if-order-eq2.false w.if-order-eq3.false), w.accepted-is ∙ counts_one _ w.if-r-eq0.true)
+        | else-r-eq0 w ↦ (rw w.s-is (step_refused _ _ _ f w.if-r-eq0.false), w.accepted-is ∙ counts_none _ w.if-r-eq0.false)
+      ] in
     let l = c.loop-i in
     let s = stepped in
     let w = c.show_order-told.ensures in
     let test = c.loop-i-test.true in (
-      more _ _ _ (order_part c.args.orders.now l.i _ _ refl refl) (omega (arith, test, l.inv.2)) l.inv.0 (c.refusal-r.ensures _ refl)
-          s.0 l.inv.3 w s.1,
+      more _ _ _ (order_part c.args.orders.now l.i _ _ refl refl) (omega (arith, test, l.invariant.2)) l.invariant.0 (c.refusal-r.ensures _ refl)
+          s.0 l.invariant.3 w s.1,
       omega (arith, test),
-      l.inv.2,
-      says_more _ _ _ (order_part c.args.orders.now l.i _ _ refl refl) (omega (arith, test, l.inv.2)) l.inv.0 (c.refusal-r.ensures _ refl)
-          s.0 l.inv.3 w,
+      l.invariant.2,
+      says_more _ _ _ (order_part c.args.orders.now l.i _ _ refl refl) (omega (arith, test, l.invariant.2)) l.invariant.0 (c.refusal-r.ensures _ refl)
+          s.0 l.invariant.3 w,
     )
 
 -- ---- the end

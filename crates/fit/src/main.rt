@@ -8,10 +8,9 @@ ghost use Rattle.std.specs.Prelude.{◌≡◌, ◌≤◌, length, take};
 ghost use Rattle.fit.specs.Prints.{columns_shown, run_text};
 
 use fields::wide;
-use std::fs;
-use std::io;
 use std::io::Read;
 use std::rt::Files;
+use std::{fs, io};
 
 // How many domains each line shows.
 fn columns(book: &[u8]) -> usize

@@ -19,7 +19,7 @@ fn main() {
         println!("cargo::rustc-env=FITTING_LIBRARY={}", library.display());
     } else {
         println!(
-            "cargo::error=the proved library is not at {}: run `rt staticlib service` at the \
+            "cargo::error=the proved library is not at {}: run `tools/staticlib` at the \
              repository root, or name its folder in FITTING_LIB_DIR",
             library.display()
         );

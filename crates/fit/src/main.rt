@@ -1,14 +1,16 @@
 // fit: the program. Reads book.bin and a list of orders from standard input, runs the list over the book, and prints the answers.
 //
-// Promise: `put_run` puts `run_text` (specs/Prints.antt) of the bytes read, for any book and orders. The rest reads and writes by the kit's libraries,
-// whose C functions' contracts are assumed.
+// Promise: `put_run` puts `run_text` (specs/Prints.antt) of the bytes read, for any book and orders. The rest reads and writes by std, of which no
+// contract says what bytes come in or go out.
 #![tactic(auto)]
 
 ghost use Rattle.std.specs.Prelude.{◌≡◌, ◌≤◌, length, take};
 ghost use Rattle.fit.specs.Prints.{columns_shown, run_text};
 
 use fields::wide;
-use libc::STDOUT_FILENO;
+use std::io::Read;
+use std::rt::Files;
+use std::{fs, io};
 
 // How many domains each line shows.
 fn columns(book: &[u8]) -> usize
@@ -33,44 +35,48 @@ fn put_run(book: &[u8], orders: &[u8], answers: &mut [u8], out: &mut [u8]) -> us
     lines::print(number, columns(book), orders.len() / 8, answers, out)
 }
 
-// Runs the list and writes the text out.
-fn run(book: &[u8], orders: &[u8])
+// Runs the list and writes the text out. An error is the write's, and leaves some of the text, or none, written.
+fn run(rt: &impl Print, book: &[u8], orders: &[u8]) -> io::Result<()>
     requires { length orders.now ≤ 2049 }
 {
-    let mut answers = io::large_buffer();
-    let mut out = io::large_buffer();
+    let mut answers = [0u8; 65536];
+    let mut out = [0u8; 65536];
     let n = put_run(book, orders, &mut answers, &mut out);
-    io::write_all(STDOUT_FILENO, &out[0..n]);
+    rt.write_all(&out[..n])
 }
 
-// Reads into the first `most` bytes of `space`, and returns how many bytes came.
-fn read_most(fd: i32, space: &mut [u8], most: usize) -> usize
+// Reads into the first `most` bytes of `space`, until they are full, the input ends or a read fails, and returns how many bytes came.
+fn read_most(input: &mut impl Read, space: &mut [u8], most: usize) -> usize
     requires { most ≤ length space.old }
     ensures { result ≤ most }
 {
-    io::read_full(fd, &mut space[0..most])
+    let mut done = 0;
+    while done < most {
+        match input.read(&mut space[done..most]) {
+            Ok(n) if 0 < n => done += n,
+            _ => break,
+        }
+    }
+    done
 }
 
 // Reads the book, and returns its length; 0 where it cannot be opened. One byte more is read than the longest book has, so that a longer
 // file is seen to be too long.
-fn read_book(space: &mut [u8]) -> usize
+fn read_book(rt: &impl Files, space: &mut [u8]) -> usize
     requires { 16897 ≤ length space.old }
     ensures { result ≤ 16897 }
 {
-    let fd = os::open_read(b"book.bin");
-    if fd < 0 {
-        return 0;
+    match fs::open(rt, "book.bin") {
+        Ok(mut file) => read_most(&mut file, space, 16897),
+        Err(_) => 0,
     }
-    let n = read_most(fd, space, 16897);
-    libc::close(fd);
-    n
 }
 
 // Reads the book and the orders, and runs the list. Of the orders, too, one byte more is read than the longest list has.
-fn main() {
-    let mut space = io::large_buffer();
-    let mut list = io::buffer();
-    let b = read_book(&mut space);
-    let m = read_most(0, &mut list, 2049);
-    run(&space[0..b], &list[0..m]);
+fn main(rt: HostRuntime) -> io::Result<()> {
+    let mut space = [0u8; 65536];
+    let mut list = [0u8; 4096];
+    let b = read_book(&rt, &mut space);
+    let m = read_most(&mut rt.reader(), &mut list, 2049);
+    run(&rt, &space[..b], &list[..m])
 }

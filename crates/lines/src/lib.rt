@@ -1,5 +1,5 @@
 // lines: the text of a run, put into a buffer. No input or output belongs to this crate: a program hands it the run's number and the answers, and
-// writes the buffer out. Of the kit's crate io it takes the figures of a number alone.
+// writes the buffer out. The kit's crate itoa gives the figures of a number.
 //
 // Promise: `print` puts `printed` (specs/Texts.antt) at the front of the buffer: the paper's line for each answer and its last line, or the one
 // line of a refused run.
@@ -40,8 +40,8 @@ fn put_number(out: &mut [u8], at: usize, x: u64) -> usize
     ensures { Written 20 out.old out.new at result (Texts·number x) }
 {
     let mut figures = [0u8; 20];
-    let k = io::decimal(x, &mut figures);
-    put(out, at, &figures[..k])
+    let start = itoa::write_digits(x, &mut figures, 20);
+    put(out, at, &figures[start..])
 }
 
 fn put_field(out: &mut [u8], at: usize, x: u64) -> usize

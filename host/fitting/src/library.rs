@@ -2,7 +2,7 @@
 
 #![allow(unsafe_code)]
 
-// As crates/service/src/lib.rt has them, a slice being a pointer and then its length; tests/declared.rs compares.
+// As crates/service_c/src/lib.rt has them, a slice being a pointer and then its length; tests/declared.rs compares.
 unsafe extern "C" {
     fn fitting_check(book: *const u8, book_len: usize) -> u64;
     fn fitting_run(

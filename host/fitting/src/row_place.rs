@@ -13,7 +13,7 @@ use crate::Cell;
 /// holds   row 0         row 1   …   row 126   the check
 /// ```
 ///
-/// This follows `placeSheet`, `placeRow`, `placeByte` and `placeColumn` in `crates/book/specs/Places.antt`,
+/// This follows `place_sheet`, `place_row`, `place_byte` and `place_column` in `crates/book/specs/Places.antt`,
 /// which are proved to find the first fault of every book that is refused with 5 or 6. A
 /// [`Refusal`](crate::Refusal) says it in words.
 ///

@@ -2,7 +2,7 @@
 //! back.
 //!
 //! ```text
-//! crates/service/src/lib.rt      src/library.rs          include/fitting.h
+//! crates/service_c/src/lib.rt    src/library.rs          include/fitting.h
 //! book: &[u8]                    book: *const u8         const uint8_t *book
 //!                                book_len: usize         size_t book_len
 //! answers: &mut [u8]             answers: *mut u8        uint8_t *answers
@@ -28,8 +28,8 @@ fn exported(
     slice: impl Fn(&str, &str) -> String,
     whole: impl Fn(&str, &str) -> String,
 ) -> Vec<String> {
-    let source = source("../../crates/service/src/lib.rt");
-    let functions = source.split("#[no_mangle] pub extern \"C\" fn ").skip(1);
+    let source = source("../../crates/service_c/src/lib.rt");
+    let functions = source.split("#[unsafe(no_mangle)] pub extern \"C\" fn ").skip(1);
     let function = |function: &str| {
         let (name, rest) = function.split_once('(').expect("(");
         let (arguments, result) = rest.split_once(')').expect(")");
@@ -62,7 +62,7 @@ fn every_declaration_in_rust_is_the_librarys() {
     let check = "fn fitting_check(book: *const u8, book_len: usize) -> u64;";
     let run = "fn fitting_run(book: *const u8, book_len: usize, orders: *const u8, \
                orders_len: usize, answers: *mut u8, answers_len: usize) -> u64;";
-    assert_eq!(exported, [check, run], "what crates/service exports");
+    assert_eq!(exported, [check, run], "what crates/service_c exports");
     for boundary in ["src/library.rs", "../fuzz/src/boundary.rs"] {
         let source = source(boundary);
         let (_, block) = source.split_once("unsafe extern \"C\" {").expect("a block");

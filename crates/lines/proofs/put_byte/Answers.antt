@@ -1,4 +1,3 @@
-use borrow.Author.Rules.{rules}
 use Rattle.lines.proofs.Written.{written_one}
 use Rattle.lines.proofs.put_byte.Goals as goal
 

@@ -1,5 +1,4 @@
 use native.Mathlib.Omega.{arith}
-use borrow.Author.Rules.{rules}
 use Rattle.lines.proofs.Written.{written_short}
 use Rattle.lines.proofs.Texts.{byte_short}
 use Rattle.lines.proofs.put_byte_field.Goals as goal

@@ -1,10 +1,6 @@
-use mathlib.Core.Path.{◌≡◌}
 use Prim.Native.Nat.{◌≤◌, ◌-◌, ◌*◌}
-use native.Mathlib.Omega.{arith}
-use borrow.Author.Rules.{rules}
 use Rattle.lines.specs.Written.{Written}
 use Rattle.lines.specs.Texts.{domain_fields}
-use Rattle.lines.proofs.Written.{written_none, written_domain}
 use Rattle.lines.proofs.put_domains.Given as goal
 
 abbrev pub invariant-loop-c : goal.invariant-loop-c

@@ -1,4 +1,3 @@
-use borrow.Author.Rules.{rules}
 use Rattle.lines.proofs.Written.{written_then}
 use Rattle.lines.proofs.put_field.Goals as goal
 

@@ -1,11 +1,6 @@
-use mathlib.Core.Path.{ap, ◌≡◌}
-use Prim.Native.Nat.{ℕ, ◌≤◌, ◌-◌, ◌+◌, ◌*◌}
-use native.Mathlib.Omega.{arith}
-use lib.ListN.{drop, take}
-use borrow.Author.Rules.{rules}
+use Prim.Native.Nat.{◌≤◌, ◌-◌, ◌+◌, ◌*◌}
 use Rattle.lines.specs.Written.{Written}
 use Rattle.lines.specs.Texts.{answer_lines}
-use Rattle.lines.proofs.Written.{written_none, written-line}
 use Rattle.lines.proofs.put_lines.Given as goal
 
 abbrev pub invariant-loop-i : goal.invariant-loop-i

@@ -1,5 +1,4 @@
 use native.Mathlib.Omega.{arith}
-use borrow.Author.Rules.{rules}
 use Rattle.lines.proofs.Written.{written_short}
 use Rattle.lines.proofs.Texts.{word_short}
 use Rattle.lines.proofs.put_word_field.Goals as goal

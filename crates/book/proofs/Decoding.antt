@@ -1,4 +1,4 @@
--- An accepted book has nothing wrong in it, and stands for a well_formed book. Assumes nothing.
+-- An accepted book has nothing wrong in it, and stands for a well-formed book. Assumes nothing.
 use mathlib.Core.Path.{◌∙◌, ◌≡◌, ap, ap₂, refl, sym}
 use mathlib.Core.Bool.{true, false}
 use mathlib.Core.Logic.{◌⊎◌, inl, inr}

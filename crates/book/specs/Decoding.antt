@@ -19,7 +19,7 @@ sheet_of b s = record { forbids = forbids_of b s; columns = tab (width_of b s) (
 unfoldable pub book_of : List ℕ → Book
 book_of b = record { counts = tab (columns_of b) (values_of b); sheets = tab (sheets_of b) (sheet_of b) }
 
--- an accepted book decodes to a well_formed one, and its figure is that book's: proved in proofs/Decoding.antt
+-- an accepted book decodes to a well-formed one, and its figure is that book's: proved in proofs/Decoding.antt
 pub record AcceptedBook (b : List ℕ) : Type 0 where
   pub well_formed : WellFormed (book_of b)
   -- "Accepted: C × 16 + S."

@@ -1,6 +1,6 @@
 // book: the format FGB1: the bytes of a fitting book, checked or refused with a number and a place.
 //
-// Promise: `check` returns `check_result` of the bytes (specs/Verdicts.antt), for every byte string; an accepted book stands for a well_formed
+// Promise: `check` returns `check_result` of the bytes (specs/Verdicts.antt), for every byte string; an accepted book stands for a well-formed
 // one (specs/Decoding.antt). Blocks, checks and the head are those of crate heads, the rows and the bounds of their bytes those of crate rows; where the
 // rows are at fault is found by crate faults.
 //

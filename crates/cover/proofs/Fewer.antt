@@ -8,7 +8,7 @@ use native.Mathlib.Nat.{le_refl, mul_assoc, mul-le-mul, mul-one, one-mul, pow-le
 use native.Mathlib.Numerals.{add-one}
 use native.Mathlib.Omega.{arith}
 use lib.Seq.{get_or-set_other, get_or-set_same}
-use lib.Count.{ones, ones-le, count_trailing_zeros}
+use lib.Count.{ones, count_trailing_zeros}
 use lib.ListN.{get_or, length, length-replicate, length-set, replicate, set}
 use Rattle.model.specs.Books.{is_any}
 use Rattle.model.specs.Choices.{Takes, space}

@@ -3,7 +3,6 @@
 -- Names: W, X, N are the arrays of words, index positions and counts of words that are not zero, T a table.
 use Rattle.std.specs.Prelude.{◌≡◌, Bool, ◌&&◌, ◌||◌, cond, false, true, ◌⊎◌, List, ◌*◌, ◌+◌, ◌<◌, ◌^◌, ◌≤◌, suc, zero, ℕ, eqb, ltb, get_or, length}
 use Rattle.std.specs.Int.Bits.{bit_or}
-use Rattle.std.specs.Int.Count.{ones}
 use Rattle.fields.specs.Bytes.{byte_at}
 use Rattle.model.specs.Books.{matches, sheet_at}
 use Rattle.model.specs.Masks.{bit, size}

@@ -1,8 +1,8 @@
 -- A forbidden sheet by counting its valid rows: they do not repeat, so with a value at a place there are as many of them as choices for the other places
 -- exactly when each such choice is forbidden; and it is done exactly when no row is valid. Assumes nothing.
 use mathlib.Core.Path.{◌∙◌, ◌≡◌, ap, refl, sym}
-use mathlib.Core.Bool.{Bool, ◌&&◌, false, false≢true, not, true, true≢false}
-use mathlib.Core.Logic.{◌⊎◌, inl, inr, ◌↔◌, ⊎_elim}
+use mathlib.Core.Bool.{Bool, ◌&&◌, false, not, true, true≢false}
+use mathlib.Core.Logic.{◌⊎◌, inl, inr}
 use mathlib.Core.List.{List, []}
 use Prim.Native.Nat.{◌+◌, ◌-◌, ◌<◌, ◌^◌, ◌≤◌, suc, zero, ℕ}
 use native.Mathlib.Omega.{arith}
@@ -13,13 +13,13 @@ use lib.Seq.{ext_get_or, get_or-set_other, get_or-set_same}
 use borrow.Author.Tests.{eq-eqb, eqb-true, lt-ltb, ltb-true, ne_eqb, not-true}
 use Rattle.model.specs.Answers.{Subsumed}
 use Rattle.model.specs.Books.{Sheet, Support, WellFormedSheet, in_domain, is_any, is_row}
-use Rattle.model.specs.Choices.{Distinct, Listed, Lower, Pigeonhole, Takes, any_choice, pick, space, space_but}
+use Rattle.model.specs.Choices.{Distinct, Listed, Lower, Pigeonhole, Takes, any_choice, pick, space}
 use Rattle.model.specs.Masks.{bit}
-use Rattle.model.specs.States.{SupportsByCounting, choices_but, valid, valid_row, valid_rows_at}
+use Rattle.model.specs.States.{SupportsByCounting, choices_but, valid_row, valid_rows_at}
 use Rattle.model.specs.Stores.{has}
 use Rattle.model.specs.Tests.{count}
 use Rattle.model.proofs.Books.{allows_forbidden, is_row_e, is_row_i}
-use Rattle.model.proofs.Choices.{Small, any_choice_e, any_choice_i, get_or-pick, length-pick, pick_i, pick_small}
+use Rattle.model.proofs.Choices.{Small, any_choice_e, any_choice_i, length-pick, pick_i, pick_small}
 use Rattle.model.proofs.Masks.{bit_below, bit_pow, bit_pow_only}
 use Rattle.model.proofs.Rows.{at_place, in_list, matched_valid, row_plain, row_self, valid_e}
 use Rattle.model.proofs.Tallies.{pigeonhole, space_single}

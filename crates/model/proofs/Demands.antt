@@ -18,7 +18,7 @@ use Rattle.model.specs.Books.{Book, column_count, sheet_at, WellFormed, Consiste
 use Rattle.model.specs.Solutions.{FirstSolution}
 use Rattle.model.specs.Search.{open_column, Searched, searched}
 use Rattle.model.specs.Orders.{kind, argument, mask, try_limit, zero_places, some_wrong, Entry, narrowed, checkpoint, depth as depth_of, first_cause, outside, refusal, AcceptedFinish, push, allowed, domains}
-use Rattle.model.specs.Answers.{assigned, status_of, Subsumed, subsumed, done_of, Outcome, state_only, found, not_found, stopped, outcome_number, outcome_tries, outcome_masks, limited, outcome, showing, answer, answers_from, accepted_from, domain_bytes, answer_bytes}
+use Rattle.model.specs.Answers.{assigned, status_of, Subsumed, subsumed, done_of, Outcome, state_only, found, not_found, stopped, outcome_number, outcome_tries, outcome_masks, limited, showing, answer, answers_from, accepted_from, domain_bytes, answer_bytes}
 use Rattle.model.specs.Demands.{ChangesNothing, unrefused, unmasked, Demand2, ShowsState, ShowsFinish, EveryAnswer, DoneExactly, SameAllowed, SameFinish, finishing, Claim1, Claim2, ClaimTries}
 use Rattle.model.proofs.Tests.{all_below_e, and_false, either}
 use Rattle.model.proofs.Masks.{bit-mask_of, bit-mask_of_out, bit_of_zero}

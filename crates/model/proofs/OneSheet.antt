@@ -1,5 +1,5 @@
 -- The closure of a book with one sheet: what the sheet settles A to is a consistent store (Settling). Assumes nothing.
-use mathlib.Core.Path.{◌∙◌, ◌≡◌, ap, refl, subst⁻¹, sym}
+use mathlib.Core.Path.{◌≡◌, refl, subst⁻¹}
 use mathlib.Core.Bool.{Bool, ◌&&◌, false, true}
 use mathlib.Core.Logic.{◌⊎◌, inl, inr}
 use mathlib.Core.List.Memᴰ
@@ -10,7 +10,7 @@ use lib.ListN.{get_or, length}
 use borrow.Author.Tests.{lt-ltb}
 use Rattle.model.specs.Books.{Book, ConsistentStore, Settles, Sheet, Stays, Support, WellFormed, WellFormedSheet, closure, column_count, supported_in}
 use Rattle.model.specs.States.{OneSheet, OneSheets, valid_row}
-use Rattle.model.specs.Stores.{IsStore, Within, has, store_of}
+use Rattle.model.specs.Stores.{IsStore, has, store_of}
 use Rattle.model.proofs.Books.{in_domain_e, place_or_none, stays_iff, support_i, support_mono}
 use Rattle.model.proofs.Rows.{supports_by_rows, valid_e, valid_i}
 use Rattle.model.proofs.Settling.{left_support, tuple_left}

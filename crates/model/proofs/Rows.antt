@@ -1,7 +1,6 @@
 -- Laws of valid rows: in a sheet that allows its rows a value is supported exactly when a valid row carries it. Assumes nothing.
 use mathlib.Core.Path.{◌∙◌, ◌≡◌, ap, ap₂, refl, sym}
 use mathlib.Core.Bool.{Bool, ◌&&◌, false, false≢true, true}
-use mathlib.Core.Logic.{◌⊎◌, inl, inr}
 use mathlib.Core.List.{List, Memᴰ, [], ◌∷◌}
 use Prim.Native.Nat.{◌*◌, ◌+◌, ◌<◌, ◌^◌, suc, zero, ℕ}
 use native.Mathlib.Nat.{le_of_suc-le-suc, not-suc-le-zero, zero-lt-suc}
@@ -11,14 +10,13 @@ use lib.ListN.{drop, get_or, length}
 use borrow.Author.Tests.{lt-ltb, ltb-true}
 use Rattle.model.specs.Books.{Sheet, Support, in_domain, is_any, matches, row_matches}
 use Rattle.model.specs.Choices.{Takes, pick}
-use Rattle.model.specs.Closure.{Consistent}
 use Rattle.model.specs.Masks.{bit}
 use Rattle.model.specs.States.{SupportsByRows, ValidSupport, valid, valid_row, valid_word}
-use Rattle.model.specs.Stores.{IsStore, has}
+use Rattle.model.specs.Stores.{has}
 use Rattle.model.proofs.Books.{allows_e, allows_i, in_domain_e, in_domain_i, matches_plain, matches_self}
 use Rattle.model.proofs.Choices.{length-pick, pick_e}
 use Rattle.model.proofs.Masks.{bit-mask_of, mask_ext, mask_of_lt, mask_of_same}
-use Rattle.model.proofs.Tests.{all_in_e, and_i, and_l, and_r, either}
+use Rattle.model.proofs.Tests.{and_i, and_l, and_r}
 
 -- ---- a row cell by cell
 pub valid_e : (D cs r : List ℕ) → valid D cs r ≡ true

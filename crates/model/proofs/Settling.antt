@@ -7,8 +7,7 @@ use mathlib.Core.List.{List}
 use Prim.Native.Nat.{◌<◌, ◌^◌, ℕ}
 use lib.ListN.{get_or, length}
 use Rattle.model.specs.Books.{Settles, Sheet, Support, WellFormedSheet, supported_in}
-use Rattle.model.specs.Choices.{pick}
-use Rattle.model.specs.Stores.{Within, has}
+use Rattle.model.specs.Stores.{has}
 use Rattle.model.proofs.Books.{distinct, place_or_none, support_e, support_i}
 use Rattle.model.proofs.Choices.{length-pick, pick_e, pick_i}
 use Rattle.model.proofs.Tests.{either}

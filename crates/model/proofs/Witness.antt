@@ -1,4 +1,4 @@
--- The statements speak of something: the paper's books are well_formed, its opening state holds, a book with one sheet has stores with no
+-- The statements speak of something: the paper's books are well-formed, its opening state holds, a book with one sheet has stores with no
 -- empty column, and a book with 255 has a written-out twin. Assumes nothing.
 use mathlib.Core.Path.{◌∙◌, ◌≡◌, ap, refl, subst, sym}
 use mathlib.Core.Bool.{Bool, ◌&&◌, ◌||◌, false, false≢true, not, true}
@@ -25,7 +25,7 @@ use Rattle.model.proofs.Tests.{all_below_e, all_in_e, and_l, and_r, or_e}
 use Rattle.model.proofs.Trails.{allowed_store}
 use Rattle.model.proofs.WrittenOut.{written_out_answers}
 
--- ---- well_formed books, by a test
+-- ---- well-formed books, by a test
 cell_test : List ℕ → Sheet → ℕ → ℕ → Bool
 cell_test counts s r i = (not s.forbids && is_any (get_or (get_or s.rows r []) i 0)) || ltb (get_or (get_or s.rows r []) i 0) (get_or counts (get_or s.columns i 0) 0)
 

@@ -1,4 +1,4 @@
--- The written-out book allows the same combinations, has no 255, and is well_formed where its rows are few enough. Assumes nothing.
+-- The written-out book allows the same combinations, has no 255, and is well-formed where its rows are few enough. Assumes nothing.
 use mathlib.Core.Path.{◌≡◌, refl, sym, ap, ◌∙◌, subst}
 use mathlib.Core.Bool.{true, false, cond, false≢true, true≢false}
 use mathlib.Core.Logic.{◌⊎◌, inl, inr, ⊎_elim}

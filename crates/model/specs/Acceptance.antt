@@ -323,7 +323,7 @@ pub record ForbiddenFacts : Type 0 where
   pub same_ends : last_answer HF (narrow 2 3 ∷ narrow 2 1 ∷ []) ≡ line 0 2 0 7 0 (2 ∷ 1 ∷ 1 ∷ [])
   pub narrower_end : last_answer HF (narrow 0 5 ∷ narrow 2 2 ∷ []) ≡ line 0 1 0 6 0 (5 ∷ 3 ∷ 2 ∷ [])
 
--- ---- the books of this page are well_formed
+-- ---- the books of this page are well-formed
 pub record BooksWellFormed : Type 0 where
   pub h : WellFormed H
   pub h1 : WellFormed H1

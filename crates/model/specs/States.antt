@@ -59,7 +59,7 @@ pub record OneSheet (b : Book) (s : Sheet) (A : List ℕ) : Type 0 where
   pub other : (c : ℕ) → ((i : ℕ) → i < length s.columns → get_or s.columns i 0 ≡ c → ⊥) → (v : ℕ)
       → (has (closure b A) c v ≡ true) ↔ ((has A c v ≡ true) × ((r : ℕ) × (valid_row A s r ≡ true)))
 
--- so it is for every well_formed book with one sheet that allows its rows and every store with no empty column (with one, no consistent store lies within).
+-- so it is for every well-formed book with one sheet that allows its rows and every store with no empty column (with one, no consistent store lies within).
 -- Proved as `one_sheets` (proofs/OneSheet.antt)
 abbrev pub OneSheets : Type 0
 OneSheets =

@@ -101,7 +101,7 @@ module _ (B : Book) (p : WellFormed B) (L : List Entry) (a : Answer) where
             let f = (((claim2 B p).0 L).found q.0).0 q.1 in
             ap (λ (D : List ℕ). get_or D c 0) ((s.not_stopped (eqb-false _ 3 e)).first q.0 f) ∙ map_out (λ v. 2 ^ v) q.0 c (rw f.solution.size k)
 
--- the book of an accepted run is well_formed
+-- the book of an accepted run is well-formed
 pub formed : (b o : List ℕ) (room : ℕ) → run_refusal b o room ≡ 0 → WellFormed (book_of b)
 formed b o room e = right_formed b (accepted_right b (right_input b o room e).book)
 

@@ -12,7 +12,7 @@ use Rattle.model.proofs.Tests.{and_true, below, either, or_false_l, or_false_r}
 use Rattle.heads.specs.Blocks.{word, block_at}
 use Rattle.rows.specs.Bounds.{any_high, below_bounds, joined, over_bounds, raised_row, slack_of, turn_of, turned, turned_row, BoundedSheet, Clears, SmallBounds, fourth, place_bound, used_rows, wrong_in}
 use Rattle.heads.specs.Limits.{set_at}
-use Rattle.heads.specs.Heads.{rows_of, width_of}
+use Rattle.heads.specs.Heads.{rows_of}
 use Rattle.rows.specs.Rows.{any_places, blocks_of, bound_of, first_block, is_value, is_wrong, row_place, wrong_block, wrong_byte, over_at}
 use Rattle.heads.proofs.Blocks.{block_byte}
 use Rattle.heads.proofs.Limits.{set_leb}

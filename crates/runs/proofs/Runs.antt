@@ -11,7 +11,7 @@ use lib.Seq.{get_or_at}
 use borrow.Author.Tests.{eq-eqb, le-leb, lt-leb, ne_eqb}
 use Rattle.model.specs.Answers.{Answer, accepted_count, accepted_from, all_bytes, answer, answer_at, answer_bytes, answers, answers_from, last_answer, last_from, opening}
 use Rattle.model.specs.Books.{Book}
-use Rattle.model.specs.Orders.{Entry, depth, is_accepted, push, trail, trail_from}
+use Rattle.model.specs.Orders.{Entry, is_accepted, push, trail, trail_from}
 use Rattle.model.specs.Tests.{one_if, tab}
 use Rattle.model.proofs.Refusals.{refusal_small}
 use Rattle.model.proofs.Tests.{below, length-tab}

@@ -23,7 +23,7 @@ use Rattle.counters.specs.Counters.{near_place}
 use Rattle.cells.specs.Cells.{Kept, KeptInside, Readable, row_inside}
 use Rattle.words.specs.Sheets.{AtSheet, CutBy, IndexOf, Inside, OnlySheet, SheetWords, Sized, WordCut, WordKept, is_set, passes_at, passes_below, swapped, value_at, value_in}
 use Rattle.words.proofs.Indexes.{Where, index_dropped, index_kept, left, length-swapped, names_other, neither, of_set_other, of_set_same, of_swapped, of_swapped_other, other, other_left, other_lt, other_rest, other_right, past_limit, right, set_below, where_is}
-use Rattle.words.proofs.Places.{block_there, cell_is, cell_there, eight}
+use Rattle.words.proofs.Places.{block_there, cell_is, cell_there}
 
 pub row_word : (W : List ℕ) (s w k : ℕ) → k < 64 → is_set W s (64 * w + k) ≡ bit k (of_sheet W s w)
 unfolding is_set

@@ -63,7 +63,7 @@ impl<'a> Book<'a> {
     /// Runs a list over the book from the opening, and gives the answers, read from the space.
     ///
     /// With an accepted book, an [`OrderList`] and a [`Space`] no run is refused, so there is nothing
-    /// to handle; the theorem is `AnyRun .accepted_run` in `crates/promises/specs/Promises.antt`. A refused
+    /// to handle; the theorem is `AnyRun.accepted_run` in `crates/promises/specs/Promises.antt`. A refused
     /// *order* refuses no run: its answer says so.
     pub fn run<'s>(&self, list: &OrderList, space: &'s mut Space) -> Answers<'s> {
         match calls::run(self.bytes, list, &mut space.bytes) {

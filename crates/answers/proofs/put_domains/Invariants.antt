@@ -1,11 +1,8 @@
-use mathlib.Core.Path.{◌∙◌, ◌≡◌}
+use mathlib.Core.Path.{◌≡◌}
 use Prim.Native.Nat.{◌-◌, ◌≤◌}
-use native.Mathlib.Omega.{arith}
 use lib.ListN.{length}
-use borrow.Author.Rules.{rules}
 use Rattle.model.specs.Answers.{domain_bytes}
 use Rattle.fields.specs.Bytes.{over}
-use Rattle.answers.proofs.Answers.{domains_more, domains_none}
 use Rattle.answers.proofs.put_domains.Given as goal
 
 abbrev pub invariant-loop-c : goal.invariant-loop-c

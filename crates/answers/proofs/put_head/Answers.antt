@@ -1,7 +1,6 @@
 use mathlib.Core.Path.{◌∙◌}
 use native.Mathlib.Omega.{arith}
 use lib.ListN.{length-set}
-use borrow.Author.Rules.{rules}
 use Rattle.answers.proofs.Answers.{head_stored}
 use Rattle.answers.proofs.put_head.Goals as goal
 
@@ -27,4 +26,4 @@ pub shape_of-out : goal.shape_of-out
 shape_of-out c = c.put_half.auto.out ∙ simp length-set
 
 pub returns : goal.returns
-returns c =     head_stored c.args.out.now c.args.tries (omega (arith, c.requires)) (omega arith) (omega arith) (omega arith) (omega arith) (omega arith) c.put_half.ensures
+returns c = head_stored c.args.out.now c.args.tries (omega (arith, c.requires)) (omega arith) (omega arith) (omega arith) (omega arith) (omega arith) c.put_half.ensures

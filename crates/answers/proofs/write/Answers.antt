@@ -1,6 +1,5 @@
 use native.Mathlib.Omega.{arith}
 use lib.ListN.{length-drop, length-take}
-use borrow.Author.Rules.{rules}
 use Rattle.fields.proofs.Bytes.{over_same, part_over}
 use Rattle.answers.proofs.write.Goals as goal
 
@@ -8,5 +7,5 @@ pub put_answer-requires : goal.put_answer-requires
 put_answer-requires c = simp (length-take, length-drop) (omega arith)
 
 pub returns : goal.returns
-returns c =     let h = c.put_answer.auto.out in
+returns c = let h = c.put_answer.auto.out in
     rw part_over (over_same _ (omega arith) c.put_answer.ensures)

@@ -1,5 +1,4 @@
 use mathlib.Core.Path.{sym, ◌∙◌}
-use borrow.Author.Rules.{rules}
 use Rattle.book.proofs.Verdicts.{result_length}
 use Rattle.book.proofs.check.Goals as goal
 

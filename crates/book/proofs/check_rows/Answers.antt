@@ -1,5 +1,4 @@
 use mathlib.Core.Path.{◌≡◌, sym, ◌∙◌}
-use borrow.Author.Rules.{rules}
 use Rattle.heads.specs.Blocks.{block_count}
 use Rattle.heads.proofs.Heads.{sheets_most}
 use Rattle.rows.specs.Rows.{blocks_needed, clean, first_fault}

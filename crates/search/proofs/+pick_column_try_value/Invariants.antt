@@ -1,5 +1,4 @@
 use Rattle.std.proofs.Common.{◌*◌, ◌+◌, ◌≤◌}
-use Rattle.search.specs.Searches.{Reaches}
 use Rattle.search.proofs.Searches.{Untried, values_left}
 use Rattle.search.proofs.+pick_column_try_value.Given as goal
 

@@ -1,8 +1,5 @@
 use mathlib.Core.Path.{◌∙◌, sym}
-use Prim.Native.Nat.{◌-◌, ◌≤◌}
 use native.Mathlib.Omega.{arith}
-use borrow.Author.Rules.{rules}
-use Rattle.model.specs.Tests.{NoneIn}
 use Rattle.model.proofs.Firsts.{first_in_end, first_in_found, none_empty, none_more}
 use Rattle.engine.specs.Propagation.{is_open}
 use Rattle.search.proofs.open_column.Goals as goal

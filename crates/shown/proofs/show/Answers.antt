@@ -1,5 +1,4 @@
 use mathlib.Core.Path.{refl}
-use borrow.Author.Rules.{rules}
 use Rattle.shown.proofs.Shows.{shows_at}
 use Rattle.shown.proofs.show.Goals as goal
 

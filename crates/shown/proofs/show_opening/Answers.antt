@@ -1,5 +1,4 @@
 use native.Mathlib.Omega.{arith}
-use borrow.Author.Rules.{rules}
 use Rattle.shown.proofs.Shows.{opens_with}
 use Rattle.shown.proofs.show_opening.Goals as goal
 
@@ -7,4 +6,4 @@ pub show-requires : goal.show-requires
 show-requires c = (omega arith, omega (arith, c.requires.2), omega arith, omega arith)
 
 pub returns : goal.returns
-returns c =     opens_with _ c.summarise-t.ensures c.state_only.ensures c.show.ensures
+returns c = opens_with _ c.summarise-t.ensures c.state_only.ensures c.show.ensures

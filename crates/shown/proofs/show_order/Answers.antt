@@ -1,5 +1,4 @@
 use native.Mathlib.Omega.{arith}
-use borrow.Author.Rules.{rules}
 use Rattle.status.proofs.Status.{laid_sheets}
 use Rattle.shown.proofs.Shows.{answers_order}
 use Rattle.shown.proofs.show_order.Goals as goal
@@ -11,4 +10,4 @@ pub show-requires : goal.show-requires
 show-requires c = let p = c.requires in (p.2, p.3, omega (arith, p.4), p.5)
 
 pub returns : goal.returns
-returns c =     answers_order c.args.order.now _ _ c.outcome_of-f.ensures c.told_after-t.ensures c.show.ensures
+returns c = answers_order c.args.order.now _ _ c.outcome_of-f.ensures c.told_after-t.ensures c.show.ensures

@@ -1,15 +1,13 @@
-use mathlib.Core.Logic.{⊎_elim}
 use mathlib.Core.Path.{◌∙◌, ◌≡◌, refl}
-use Prim.Native.Nat.{◌-◌, ◌<◌, ◌≤◌}
+use Prim.Native.Nat.{◌<◌, ◌≤◌}
 use native.Mathlib.Omega.{arith}
 use lib.ListN.{get_or}
-use borrow.Author.Rules.{rules}
 use borrow.Author.Tests.{le-ltb, lt-ltb}
 use Rattle.model.specs.Tests.{count, sum}
 use Rattle.model.proofs.Tallies.{count_most}
 use Rattle.heads.specs.Heads.{column_of, width_of}
 use Rattle.words.proofs.Places.{column_below, eight, head_there, width_most}
-use Rattle.status.specs.Status.{is_many, open_places}
+use Rattle.status.specs.Status.{is_many}
 use Rattle.status.proofs.Counts.{one_more, one_less}
 use Rattle.status.proofs.open_places.Goals as goal
 use Rattle.status.proofs.open_places.Goals.{then-sizes-c-gt1, else-sizes-c-gt1}
@@ -40,17 +38,17 @@ overflow_add-n c =
     omega (arith, l.invariant.0, most, below-4)
 
 pub loop-j-preserved : goal.loop-j-preserved
-loop-j-preserved c =     let Z = c.args.sizes.now in
+loop-j-preserved c = let Z = c.args.sizes.now in
     let l = c.loop-j in
     let e = c.column-c.ensures.0 in (
       elim c.if-sizes-c-gt1.branch [
-        then-sizes-c-gt1 w ↦ w.n-is ∙ one_more l.j _ l.invariant.0 (lt-ltb 1 _ (rw e at w.if-sizes-c-gt1.true))
+        | then-sizes-c-gt1 w ↦ w.n-is ∙ one_more l.j _ l.invariant.0 (lt-ltb 1 _ (rw e at w.if-sizes-c-gt1.true))
         | else-sizes-c-gt1 w ↦ let few : get_or Z c.column-c.result 0 ≤ 1 = omega (arith, w.if-sizes-c-gt1.false) in w.n-is ∙ one_less l.j _ l.invariant.0 (le-ltb 1 _ (rw e at few))
       ],
       omega (arith, c.loop-j-test.true),
     )
 
 pub returns : goal.returns
-returns c =     let e : c.loop-j.j ≡ width_of c.args.book.now c.args.s =
+returns c = let e : c.loop-j.j ≡ width_of c.args.book.now c.args.s =
     omega (arith, c.loop-j-test.false, c.loop-j.invariant.1, c.width-k.ensures.0) in
     rw e at c.loop-j.invariant.0

@@ -1,16 +1,6 @@
-use mathlib.Core.Logic.{⊎_elim}
-use mathlib.Core.Path.{◌∙◌, ◌≡◌, refl}
-use Prim.Native.Nat.{◌-◌, ◌<◌, ◌≤◌}
-use native.Mathlib.Omega.{arith}
-use lib.ListN.{get_or}
-use borrow.Author.Rules.{rules}
-use borrow.Author.Tests.{le-ltb, lt-ltb}
-use Rattle.model.specs.Tests.{count, sum}
-use Rattle.model.proofs.Tallies.{count_most}
-use Rattle.heads.specs.Heads.{column_of, width_of}
-use Rattle.words.proofs.Places.{column_below, eight, head_there, width_most}
-use Rattle.status.specs.Status.{is_many, open_places}
-use Rattle.status.proofs.Counts.{one_more, one_less}
+use mathlib.Core.Path.{◌≡◌}
+use Prim.Native.Nat.{◌-◌, ◌≤◌}
+use Rattle.status.specs.Status.{open_places}
 use Rattle.status.proofs.open_places.Given as goal
 
 abbrev pub invariant-loop-j : goal.invariant-loop-j

@@ -10,7 +10,7 @@ pub count_values-requires : goal.count_values-requires
 count_values-requires c = let k = c.requires.1.is.store in search (rules, k)
 
 pub done_sheets-done-requires : goal.done_sheets-done-requires
-done_sheets-done-requires c =     let p = c.requires in
+done_sheets-done-requires c = let p = c.requires in
     (p.0, c.count_values.ensures, is_open p.0.accepted p.1.is c.if-dom-eq0.false)
 
 pub returns : goal.returns

@@ -3,28 +3,28 @@ use Prim.Native.Nat.{◌%◌, ◌*◌, ◌+◌, ℕ}
 use borrow.Author.Rules.{rules}
 use Rattle.model.proofs.Masks.{cleared_at}
 use Rattle.cells.proofs.Stretches.{row_cell}
-use Rattle.tally.proofs.Tallies.{Counting, cell_bytes, cells_counted, counting_end, counting_most, counting_start, counting_turn}
-use Rattle.cells.proofs.Walks.{Part, part_cleared, whole}
+use Rattle.tally.proofs.Tallies.{cell_bytes, cells_counted, counting_end, counting_most, counting_start, counting_turn}
+use Rattle.cells.proofs.Walks.{part_cleared, whole}
 use Rattle.tally.proofs.count_far.Goals as goal
 
 pub loop-left-init : goal.loop-left-init
 loop-left-init c = (counting_start _ _ _ _ _ c.requires.2, whole _)
 
 pub at_bit-requires : goal.at_bit-requires
-at_bit-requires c =     let z = c.requires.1.there _ (c.loop-left.invariant.1.at _ c.lowest-i.ensures.2) in
+at_bit-requires c = let z = c.requires.1.there _ (c.loop-left.invariant.1.at _ c.lowest-i.ensures.2) in
     (c.requires.0, c.lowest-i.ensures.1, search (rules, z))
 
 pub count_row-requires : goal.count_row-requires
-count_row-requires c =     (cell_bytes _ c.requires.1 (c.loop-left.invariant.1.at _ c.lowest-i.ensures.2) c.at_bit.ensures.place, counting_most c.requires.2 c.loop-left.invariant.0)
+count_row-requires c = (cell_bytes _ c.requires.1 (c.loop-left.invariant.1.at _ c.lowest-i.ensures.2) c.at_bit.ensures.place, counting_most c.requires.2 c.loop-left.invariant.0)
 
 pub loop-left-preserved : goal.loop-left-preserved
-loop-left-preserved c =     let t = cleared_at c.lowest-i.ensures.0 c.without_lowest-left.ensures.0 in (
-      counting_turn t c.lowest-i.ensures.1 c.loop-left.invariant.0
-          (cells_counted
-          (λ j. ap (λ (x : ℕ). x % 32) (row_cell c.args.book.now c.args.p.begin (64 * c.args.p.word + c.lowest-i.result) j c.at_bit.ensures.place))
-          c.count_row.ensures),
-      part_cleared t c.loop-left.invariant.1,
-    )
+loop-left-preserved c = let t = cleared_at c.lowest-i.ensures.0 c.without_lowest-left.ensures.0 in (
+  counting_turn t c.lowest-i.ensures.1 c.loop-left.invariant.0
+      (cells_counted
+      (λ j. ap (λ (x : ℕ). x % 32) (row_cell c.args.book.now c.args.p.begin (64 * c.args.p.word + c.lowest-i.result) j c.at_bit.ensures.place))
+      c.count_row.ensures),
+  part_cleared t c.loop-left.invariant.1,
+)
 
 pub returns : goal.returns
 returns c = counting_end (rw c.loop-left-test.false at c.loop-left.invariant.0)

@@ -1,10 +1,6 @@
-use mathlib.Core.Path.{ap}
-use Prim.Native.Nat.{◌%◌, ◌*◌, ◌+◌, ℕ}
-use borrow.Author.Rules.{rules}
-use Rattle.model.proofs.Masks.{cleared_at}
-use Rattle.cells.proofs.Stretches.{row_cell}
-use Rattle.tally.proofs.Tallies.{Counting, cell_bytes, cells_counted, counting_end, counting_most, counting_start, counting_turn}
-use Rattle.cells.proofs.Walks.{Part, part_cleared, whole}
+use Prim.Native.Nat.{◌*◌}
+use Rattle.tally.proofs.Tallies.{Counting}
+use Rattle.cells.proofs.Walks.{Part}
 use Rattle.tally.proofs.count_near.Given as goal
 
 abbrev pub invariant-loop-left : goal.invariant-loop-left

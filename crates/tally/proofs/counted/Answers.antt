@@ -8,7 +8,7 @@ pub at_word-p-requires : goal.at_word-p-requires
 at_word-p-requires c = let z = c.requires.2 in (c.requires.0, search (rules, z))
 
 pub count_near-requires : goal.count_near-requires
-count_near-requires c =     let p = c.at_word-p.ensures in
+count_near-requires c = let p = c.at_word-p.ensures in
     let f = c.first_rows.ensures in (
       part_stretch (near_part (first_near f)) (near_stretch (rw p.1 c.requires.0) p.2 (rw (p.0, p.1) c.requires.2)),
       rw (p.0, p.1) (part_readable (first_part f) c.requires.1),
@@ -16,9 +16,9 @@ count_near-requires c =     let p = c.at_word-p.ensures in
     )
 
 pub count_far-requires : goal.count_far-requires
-count_far-requires c =     let p = c.at_word-p.ensures in
+count_far-requires c = let p = c.at_word-p.ensures in
     (p.2, rw (p.0, p.1) (part_readable (past_part c.past_rows.ensures) c.requires.1), counted_most c.requires.3 c.count_near.ensures)
 
 pub returns : goal.returns
-returns c =     let p = c.at_word-p.ensures in
+returns c = let p = c.at_word-p.ensures in
     counted_join c.first_rows.ensures c.past_rows.ensures (rw (p.0, p.1) at c.count_near.ensures) (rw (p.0, p.1) at c.count_far.ensures)

@@ -1,4 +1,3 @@
-use borrow.Author.Rules.{rules}
 use Rattle.tally.proofs.Tallies.{raised}
 use Rattle.tally.proofs.raise.Goals as goal
 

@@ -1,11 +1,7 @@
-use mathlib.Core.Path.{◌≡◌, ◌∙◌, sym}
-use mathlib.Core.Bool.{true}
+use mathlib.Core.Path.{◌∙◌, sym}
 use Prim.Native.Nat.{◌<◌, ◌≤◌}
 use native.Mathlib.Omega.{arith}
-use borrow.Author.Rules.{rules}
-use borrow.Author.Tests.{not-false, not-true}
 use Rattle.model.proofs.Firsts.{first_in_none}
-use Rattle.heads.specs.Heads.{forbids_of, rows_of}
 use Rattle.heads.proofs.Heads.{rows_most, sheets_most}
 use Rattle.rows.specs.Rows.{first_block}
 use Rattle.book.proofs.Numbers.{sheet_found, sheet_plain, sheet_rises}
@@ -18,7 +14,7 @@ forbids-requires c =
     (head_there _ c.requires.0, eight)
 
 pub returns-then-not-forbids : goal.returns-then-not-forbids
-returns-then-not-forbids c =     sym (sheet_plain _ _ (sym c.forbids.ensures ∙ c.if-not-forbids.true))
+returns-then-not-forbids c = sym (sheet_plain _ _ (sym c.forbids.ensures ∙ c.if-not-forbids.true))
 
 pub first_block-start-requires : goal.first_block-start-requires
 first_block-start-requires c =
@@ -42,9 +38,9 @@ fall_number-requires c =
     (omega (arith, few, c.first_block-start.ensures.0), omega (arith, c.if-r-rows.true, c.rows.ensures.0, rows_most _ c.requires.1 _ c.requires.3))
 
 pub returns-then-r-rows : goal.returns-then-r-rows
-returns-then-r-rows c =     c.fall_number.ensures
+returns-then-r-rows c = c.fall_number.ensures
     ∙ rw c.first_block-start.ensures.0
     (sym (sheet_found _ _ _ (sym c.forbids.ensures ∙ c.if-not-forbids.false) c.first_fall_in-r.ensures (omega (arith, c.if-r-rows.true, c.rows.ensures.0))))
 
 pub returns : goal.returns
-returns c =     sym (sheet_rises _ _ (first_in_none c.first_fall_in-r.ensures (omega (arith, c.if-r-rows.false, c.rows.ensures.0))))
+returns c = sym (sheet_rises _ _ (first_in_none c.first_fall_in-r.ensures (omega (arith, c.if-r-rows.false, c.rows.ensures.0))))

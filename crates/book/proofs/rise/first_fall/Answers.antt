@@ -1,11 +1,9 @@
 use mathlib.Core.Path.{◌≡◌, ◌∙◌, sym}
-use Prim.Native.Nat.{◌-◌, ◌≤◌, ◌<◌}
+use Prim.Native.Nat.{◌<◌}
 use native.Mathlib.Omega.{arith}
 use borrow.Author.Rules.{rules}
-use Rattle.model.specs.Tests.{NoneIn}
 use Rattle.model.proofs.Firsts.{none_empty, none_more}
 use Rattle.heads.specs.Heads.{sheets_of}
-use Rattle.rows.specs.Rows.{falls_in}
 use Rattle.book.proofs.Numbers.{fall_found, fall_none, no_sheet_fall}
 use Rattle.rows.proofs.Rows.{head_there}
 use Rattle.book.proofs.rise.first_fall.Goals as goal
@@ -29,8 +27,8 @@ returns-then-f-ne0 c =
     ∙ sym (fall_found _ _ one c.loop-s.invariant.1 (λ e. c.if-f-ne0.true (c.fall_in_sheet-f.ensures ∙ e)))
 
 pub loop-s-preserved : goal.loop-s-preserved
-loop-s-preserved c =     (search rules, none_more c.loop-s.invariant.1 (no_sheet_fall _ _ (sym c.fall_in_sheet-f.ensures ∙ c.if-f-ne0.false)))
+loop-s-preserved c = (search rules, none_more c.loop-s.invariant.1 (no_sheet_fall _ _ (sym c.fall_in_sheet-f.ensures ∙ c.if-f-ne0.false)))
 
 pub returns : goal.returns
-returns c =     let e : c.loop-s.s ≡ sheets_of c.args.book.now = omega (arith, c.loop-s-test.false, c.loop-s.invariant.0, c.sheets-n.ensures.0) in
+returns c = let e : c.loop-s.s ≡ sheets_of c.args.book.now = omega (arith, c.loop-s-test.false, c.loop-s.invariant.0, c.sheets-n.ensures.0) in
     sym (fall_none _ (rw e at c.loop-s.invariant.1))

@@ -1,13 +1,6 @@
-use mathlib.Core.Path.{◌≡◌, ◌∙◌, sym}
-use Prim.Native.Nat.{◌-◌, ◌≤◌, ◌<◌}
-use native.Mathlib.Omega.{arith}
-use borrow.Author.Rules.{rules}
+use Prim.Native.Nat.{◌-◌, ◌≤◌}
 use Rattle.model.specs.Tests.{NoneIn}
-use Rattle.model.proofs.Firsts.{none_empty, none_more}
-use Rattle.heads.specs.Heads.{sheets_of}
 use Rattle.rows.specs.Rows.{falls_in}
-use Rattle.book.proofs.Numbers.{fall_found, fall_none, no_sheet_fall}
-use Rattle.rows.proofs.Rows.{head_there}
 use Rattle.book.proofs.rise.first_fall.Given as goal
 
 abbrev pub invariant-loop-s : goal.invariant-loop-s

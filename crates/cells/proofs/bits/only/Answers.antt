@@ -1,4 +1,3 @@
-use borrow.Author.Rules.{rules}
 use Rattle.cells.proofs.Walks.{shifted_one}
 use Rattle.cells.proofs.bits.only.Goals as goal
 

@@ -1,7 +1,6 @@
 use Prim.Native.Nat.{◌-◌}
 use native.Mathlib.Omega.{arith}
 use lib.Bits.{and_le_r}
-use borrow.Author.Rules.{rules}
 use Rattle.model.proofs.Masks.{cleared}
 use Rattle.cells.proofs.bits.others.Goals as goal
 

@@ -2,7 +2,6 @@ use mathlib.Core.Path.{◌∙◌, ap, sym}
 use Prim.Native.Nat.{ℕ}
 use native.Mathlib.Omega.{arith}
 use lib.Dec.{ltb}
-use borrow.Author.Rules.{rules}
 use Rattle.model.specs.Masks.{size}
 use Rattle.model.proofs.Masks.{size_many, size_zero}
 use Rattle.cells.proofs.bits.two_or_more.Goals as goal

@@ -1,5 +1,4 @@
 use native.Mathlib.Omega.{arith}
-use borrow.Author.Rules.{rules}
 use Rattle.cells.proofs.Collects.{sets_joined}
 use Rattle.cells.proofs.walk.add.Goals as goal
 

@@ -7,19 +7,19 @@ pub at_word-p-requires : goal.at_word-p-requires
 at_word-p-requires c = let z = c.requires.2 in (c.requires.0, search (rules, z))
 
 pub gathered_near-requires : goal.gathered_near-requires
-gathered_near-requires c =     let p = c.at_word-p.ensures in
+gathered_near-requires c = let p = c.at_word-p.ensures in
     (part_stretch (near_part (first_near c.first_rows.ensures)) (near_stretch (rw p.1 c.requires.0) p.2 (rw (p.0, p.1) c.requires.2)), c.requires.3)
 
 pub gathered_far-requires : goal.gathered_far-requires
-gathered_far-requires c =     let p = c.at_word-p.ensures in
+gathered_far-requires c = let p = c.at_word-p.ensures in
     (p.2, rw (p.0, p.1) (part_readable (past_part c.past_rows.ensures) c.requires.1))
 
 pub add-requires : goal.add-requires
 add-requires c = c.gathered_near.ensures.1
 
 pub returns : goal.returns
-returns c =     let p = c.at_word-p.ensures in (
-      of_join _ (rows_split c.first_rows.ensures c.past_rows.ensures).at (rw (p.0, p.1) at c.gathered_near.ensures.0)
-          (of_added (rw (p.0, p.1) at c.gathered_far.ensures) c.add.ensures),
-      c.add.ensures.small,
-    )
+returns c = let p = c.at_word-p.ensures in (
+  of_join _ (rows_split c.first_rows.ensures c.past_rows.ensures).at (rw (p.0, p.1) at c.gathered_near.ensures.0)
+      (of_added (rw (p.0, p.1) at c.gathered_far.ensures) c.add.ensures),
+  c.add.ensures.small,
+)

@@ -1,11 +1,7 @@
 use Prim.Native.Nat.{◌%◌, ◌*◌, ◌+◌}
-use native.Mathlib.Omega.{arith}
-use borrow.Author.Rules.{rules}
-use Rattle.model.proofs.Masks.{cleared_at}
 use Rattle.cells.specs.Cells.{GatheredOf, cell_at, four_of}
-use Rattle.cells.proofs.Collects.{of_all, of_none, of_turn, passed, passed_start}
-use Rattle.cells.proofs.Stretches.{row_set}
-use Rattle.cells.proofs.Walks.{Part, whole}
+use Rattle.cells.proofs.Collects.{passed}
+use Rattle.cells.proofs.Walks.{Part}
 use Rattle.cells.proofs.walk.gathered_far.Given as goal
 
 abbrev pub invariant-loop-left : goal.invariant-loop-left

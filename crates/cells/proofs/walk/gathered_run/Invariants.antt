@@ -1,13 +1,6 @@
-use mathlib.Core.Path.{◌∙◌, ◌≡◌, ap}
-use Prim.Native.Nat.{◌%◌, ◌*◌, ◌+◌, ◌-◌, ◌≤◌, ℕ}
-use native.Mathlib.Omega.{arith}
+use Prim.Native.Nat.{◌%◌, ◌*◌, ◌+◌, ◌-◌, ◌≤◌}
 use lib.Dec.{ltb}
-use borrow.Author.Rules.{rules}
-use borrow.Author.Tests.{lt-ltb}
 use Rattle.cells.specs.Cells.{GatheredOf, cell_at, four_of}
-use Rattle.cells.proofs.Collects.{of_none, of_row, of_same, run_more, run_none}
-use Rattle.counters.proofs.Ones.{low_ones}
-use Rattle.cells.proofs.Stretches.{row_set}
 use Rattle.cells.proofs.walk.gathered_run.Given as goal
 
 abbrev pub invariant-loop-k : goal.invariant-loop-k

@@ -6,4 +6,4 @@ pub returns-then-x-eq0 : goal.returns-then-x-eq0
 returns-then-x-eq0 c = low_half c.args.low c.args.high c.args.x (omega (arith, c.if-x-eq0.true))
 
 pub returns : goal.returns
-returns c =     high_half c.args.low c.args.high c.args.x (omega (arith, c.ranges.low)) (omega (arith, c.if-x-eq0.false))
+returns c = high_half c.args.low c.args.high c.args.x (omega (arith, c.ranges.low)) (omega (arith, c.if-x-eq0.false))

@@ -4,7 +4,6 @@ use mathlib.Core.List.{List}
 use Prim.Native.Nat.{◌%◌, ◌+◌, ℕ}
 use native.Mathlib.Omega.{arith}
 use lib.ListN.{get_or}
-use borrow.Author.Rules.{rules}
 use Rattle.model.specs.Masks.{bit}
 use Rattle.fields.specs.Bytes.{byte_at}
 use Rattle.cells.proofs.Halves.{held_none, held_some, last_of_four, one_not}
@@ -21,18 +20,18 @@ first b at x = let z : at ≡ at + 0 = omega arith in ap (λ (i : ℕ). bit (byt
 
 pub returns-then-held-eq0 : goal.returns-then-held-eq0
 unfolding test
-returns-then-held-eq0 c =     (omega arith, one_not (test c.args.book.now c.args.at c.args.x.now) 0 (omega arith) (held_none (c.held.ensures.1 ∙ first c.args.book.now c.args.at c.args.x.now) c.if-held-eq0.true))
+returns-then-held-eq0 c = (omega arith, one_not (test c.args.book.now c.args.at c.args.x.now) 0 (omega arith) (held_none (c.held.ensures.1 ∙ first c.args.book.now c.args.at c.args.x.now) c.if-held-eq0.true))
 
 pub returns-then-held-eq0-2 : goal.returns-then-held-eq0-2
 unfolding test
-returns-then-held-eq0-2 c =     (omega arith, one_not (test c.args.book.now c.args.at c.args.x.now) 1 (omega arith) (held_none c.held-2.ensures.1 c.if-held-eq0-2.true))
+returns-then-held-eq0-2 c = (omega arith, one_not (test c.args.book.now c.args.at c.args.x.now) 1 (omega arith) (held_none c.held-2.ensures.1 c.if-held-eq0-2.true))
 
 pub returns-then-held-eq0-3 : goal.returns-then-held-eq0-3
 unfolding test
-returns-then-held-eq0-3 c =     (omega arith, one_not (test c.args.book.now c.args.at c.args.x.now) 2 (omega arith) (held_none c.held-3.ensures.1 c.if-held-eq0-3.true))
+returns-then-held-eq0-3 c = (omega arith, one_not (test c.args.book.now c.args.at c.args.x.now) 2 (omega arith) (held_none c.held-3.ensures.1 c.if-held-eq0-3.true))
 
 pub returns : goal.returns
 unfolding test
-returns c =     let f = test c.args.book.now c.args.at c.args.x.now in
+returns c = let f = test c.args.book.now c.args.at c.args.x.now in
     let p = held_some c.held.ensures.0 (c.held.ensures.1 ∙ first c.args.book.now c.args.at c.args.x.now) c.if-held-eq0.false in
     (c.held-4.ensures.0, c.held-4.ensures.1 ∙ last_of_four f p (held_some c.held-2.ensures.0 c.held-2.ensures.1 c.if-held-eq0-2.false) (held_some c.held-3.ensures.0 c.held-3.ensures.1 c.if-held-eq0-3.false))

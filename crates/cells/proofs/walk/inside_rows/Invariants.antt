@@ -1,11 +1,6 @@
-use mathlib.Core.Path.{◌∙◌, sym}
 use Prim.Native.Nat.{◌*◌, ◌+◌}
-use native.Mathlib.Omega.{arith}
-use borrow.Author.Rules.{rules}
-use Rattle.model.proofs.Masks.{cleared_at}
 use Rattle.cells.specs.Cells.{row_inside}
-use Rattle.cells.proofs.Halves.{inside_row}
-use Rattle.cells.proofs.Walks.{Part, Walked, part_cleared, walked_end, walked_start, walked_turn, whole}
+use Rattle.cells.proofs.Walks.{Part, Walked}
 use Rattle.cells.proofs.walk.inside_rows.Given as goal
 
 abbrev pub invariant-loop-left : goal.invariant-loop-left

@@ -1,4 +1,3 @@
-use borrow.Author.Rules.{rules}
 use Rattle.cells.proofs.Walks.{kept_any}
 use Rattle.cells.proofs.walk.kept_any.Goals as goal
 

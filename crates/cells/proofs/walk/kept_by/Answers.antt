@@ -7,13 +7,13 @@ pub at_word-p-requires : goal.at_word-p-requires
 at_word-p-requires c = let z = c.requires.3 in (c.requires.0, search (rules, z))
 
 pub kept_far-far-requires : goal.kept_far-far-requires
-kept_far-far-requires c =     let p = c.at_word-p.ensures in
+kept_far-far-requires c = let p = c.at_word-p.ensures in
     (c.requires.1, p.2, rw (p.0, p.1) (part_readable (past_part c.past_rows.ensures) c.requires.2))
 
 pub kept_near-requires : goal.kept_near-requires
-kept_near-requires c =     let p = c.at_word-p.ensures in
+kept_near-requires c = let p = c.at_word-p.ensures in
     (c.requires.1, near_stretch (rw p.1 c.requires.0) p.2 (rw (p.0, p.1) c.requires.3), first_near c.first_rows.ensures)
 
 pub returns : goal.returns
-returns c =     let p = c.at_word-p.ensures in
+returns c = let p = c.at_word-p.ensures in
     kept_join (rows_split c.first_rows.ensures c.past_rows.ensures) (rw (p.0, p.1) at c.kept_near.ensures) (rw (p.0, p.1) at c.kept_far-far.ensures)

@@ -1,4 +1,3 @@
-use borrow.Author.Rules.{rules}
 use Rattle.cells.proofs.Stretches.{near_part, part_stretch}
 use Rattle.cells.proofs.Walks.{kept_part}
 use Rattle.cells.proofs.walk.kept_near.Goals as goal

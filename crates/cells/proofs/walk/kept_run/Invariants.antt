@@ -1,12 +1,5 @@
-use mathlib.Core.Path.{◌∙◌, ◌≡◌, ap}
-use Prim.Native.Nat.{◌%◌, ◌*◌, ◌+◌, ◌-◌, ◌^◌, ◌≤◌, ℕ}
-use native.Mathlib.Omega.{arith}
-use borrow.Author.Rules.{rules}
-use borrow.Author.Tests.{lt-ltb}
+use Prim.Native.Nat.{◌*◌, ◌+◌, ◌-◌, ◌^◌, ◌≤◌}
 use Rattle.cells.specs.Cells.{KeptRun}
-use Rattle.cells.proofs.Halves.{run_start, run_turn}
-use Rattle.counters.proofs.Ones.{low_ones}
-use Rattle.cells.proofs.Stretches.{row_cell}
 use Rattle.cells.proofs.walk.kept_run.Given as goal
 
 abbrev pub invariant-loop-k : goal.invariant-loop-k

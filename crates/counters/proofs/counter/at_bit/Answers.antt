@@ -1,12 +1,11 @@
 use mathlib.Core.Path.{◌≡◌, refl, sym}
 use Prim.Native.Nat.{◌*◌, ◌+◌, ◌/◌}
 use native.Mathlib.Omega.{arith}
-use borrow.Author.Rules.{rules}
 use Rattle.counters.proofs.Counters.{place_moved, row_moved}
 use Rattle.counters.proofs.counter.at_bit.Goals as goal
 
 pub returns : goal.returns
-returns c =     let p = c.args.p in
+returns c = let p = c.args.p in
     let i = c.args.i in
     let at = c.requires.0 in
     let more = c.ended-more.ensures in

@@ -1,12 +1,11 @@
 use mathlib.Core.Path.{◌≡◌, refl, sym}
 use Prim.Native.Nat.{◌*◌, ◌+◌, ◌/◌}
 use native.Mathlib.Omega.{arith}
-use borrow.Author.Rules.{rules}
 use Rattle.counters.proofs.Counters.{place_along, row_along}
 use Rattle.counters.proofs.counter.at_near.Goals as goal
 
 pub returns : goal.returns
-returns c =     let p = c.args.p in
+returns c = let p = c.args.p in
     let i = c.args.i in
     let at = c.requires.0 in
     let from : 64 * p.word ≡ 127 * p.block + p.row = omega (arith, at.counters.block_is, at.counters.row_is) in

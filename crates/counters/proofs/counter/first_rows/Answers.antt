@@ -1,5 +1,4 @@
 use native.Mathlib.Omega.{arith}
-use borrow.Author.Rules.{rules}
 use Rattle.counters.proofs.Counters.{first_rows}
 use Rattle.counters.proofs.counter.first_rows.Goals as goal
 

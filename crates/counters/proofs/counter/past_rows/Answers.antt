@@ -1,5 +1,4 @@
 use native.Mathlib.Omega.{arith}
-use borrow.Author.Rules.{rules}
 use Rattle.counters.proofs.Counters.{past_rows}
 use Rattle.counters.proofs.counter.past_rows.Goals as goal
 

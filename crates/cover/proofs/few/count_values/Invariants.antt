@@ -1,9 +1,5 @@
-use mathlib.Core.Path.{◌≡◌}
-use Prim.Native.Nat.{◌-◌, ◌<◌, ◌≤◌}
-use native.Mathlib.Omega.{arith}
-use borrow.Author.Rules.{rules}
+use Prim.Native.Nat.{◌-◌, ◌≤◌}
 use Rattle.cover.specs.Covers.{SizesTo}
-use Rattle.cover.proofs.Fewer.{sizes_more, sizes_none}
 use Rattle.cover.proofs.few.count_values.Given as goal
 
 abbrev pub invariant-loop-c : goal.invariant-loop-c

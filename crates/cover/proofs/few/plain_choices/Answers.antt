@@ -1,6 +1,5 @@
-use mathlib.Core.Logic.{⊎_elim}
 use mathlib.Core.Path.{◌∙◌, ◌≡◌, refl}
-use Prim.Native.Nat.{◌+◌, ◌-◌, ◌<◌, ◌≤◌}
+use Prim.Native.Nat.{◌+◌, ◌<◌}
 use native.Mathlib.Omega.{arith}
 use borrow.Author.Rules.{rules}
 use Rattle.heads.specs.Heads.{width_of}
@@ -60,16 +59,16 @@ overflow_mul-n c =
     )
 
 pub loop-j-preserved : goal.loop-j-preserved
-loop-j-preserved c =     (
-      elim c.if-shorts-j-eq0.branch [
-        then-shorts-j-eq0 w ↦ w.n-is ∙ plain_free c.requires.0 _ _ c.loop-j.j (bit_not _ _ _ refl (λ z. omega (arith, w.if-shorts-j-eq0.true))) w.column-c.ensures.0 c.loop-j.invariant.0
-        | else-shorts-j-eq0 w ↦ w.n-is ∙ plain_short c.requires.0 _ _ c.loop-j.j (bit_is _ _ _ refl (omega (arith, w.if-shorts-j-eq0.false))) c.loop-j.invariant.0
-      ],
-      omega (arith, c.loop-j-test.true),
-    )
+loop-j-preserved c = (
+  elim c.if-shorts-j-eq0.branch [
+    | then-shorts-j-eq0 w ↦ w.n-is ∙ plain_free c.requires.0 _ _ c.loop-j.j (bit_not _ _ _ refl (λ z. omega (arith, w.if-shorts-j-eq0.true))) w.column-c.ensures.0 c.loop-j.invariant.0
+    | else-shorts-j-eq0 w ↦ w.n-is ∙ plain_short c.requires.0 _ _ c.loop-j.j (bit_is _ _ _ refl (omega (arith, w.if-shorts-j-eq0.false))) c.loop-j.invariant.0
+  ],
+  omega (arith, c.loop-j-test.true),
+)
 
 pub returns : goal.returns
-returns c =     let e : c.loop-j.j ≡ width_of c.args.book.now c.args.s =
+returns c = let e : c.loop-j.j ≡ width_of c.args.book.now c.args.s =
     omega (arith, c.loop-j-test.false, c.loop-j.invariant.1, c.width-k.ensures.0) in
     let i = rw e at c.loop-j.invariant.0 in
     (i, omega (arith, i, plain_most c.requires.0 c.args.shorts _ c.requires.1 (width_of c.args.book.now c.args.s) (omega arith)))

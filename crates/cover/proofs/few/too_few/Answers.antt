@@ -1,7 +1,6 @@
 use mathlib.Core.Path.{sym}
 use Prim.Native.Nat.{◌<◌}
 use native.Mathlib.Omega.{arith}
-use borrow.Author.Rules.{rules}
 use borrow.Author.Tests.{lt-ltb}
 use lib.ListN.{get_or}
 use Rattle.heads.specs.Heads.{width_of}
@@ -15,7 +14,7 @@ pub nonzero_words-n-requires : goal.nonzero_words-n-requires
 nonzero_words-n-requires c = eight c.requires.0
 
 pub returns-then-n-choices : goal.returns-then-n-choices
-returns-then-n-choices c =     let a = c.args in
+returns-then-n-choices c = let a = c.args in
     let n = get_or a.nonzero.now a.s 0 in
     let l : rows_to a.valid.now a.index.now a.s n < plain_in a.book.now a.s a.shorts a.sizes.now (width_of a.book.now a.s) =
     omega (
@@ -28,8 +27,8 @@ returns-then-n-choices c =     let a = c.args in
     sym (lt-ltb _ _ l)
 
 pub set_rows-requires : goal.set_rows-requires
-set_rows-requires c =     let p = c.requires in
+set_rows-requires c = let p = c.requires in
     (eight p.0, p.2, p.3, omega (arith, c.nonzero_words-n.ensures.0))
 
 pub returns : goal.returns
-returns c =     rw (c.set_rows.ensures, c.nonzero_words-n.ensures.0, c.plain_choices-choices.ensures.0)
+returns c = rw (c.set_rows.ensures, c.nonzero_words-n.ensures.0, c.plain_choices-choices.ensures.0)

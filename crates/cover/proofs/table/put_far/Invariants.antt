@@ -1,11 +1,8 @@
-use borrow.Author.Rules.{rules}
 use Prim.Native.Nat.{◌*◌, ◌+◌}
-use Rattle.model.proofs.Masks.{cleared_at}
 use Rattle.cells.specs.Cells.{cell_at}
-use Rattle.cells.proofs.Collects.{passed, passed_start}
-use Rattle.cells.proofs.Walks.{Part, whole}
+use Rattle.cells.proofs.Collects.{passed}
+use Rattle.cells.proofs.Walks.{Part}
 use Rattle.cover.specs.Covers.{Tabled}
-use Rattle.cover.proofs.Tables.{all_tabled, row_tabled, row_there, tabled_none}
 use Rattle.cover.proofs.table.put_far.Given as goal
 
 abbrev pub invariant-loop-left : goal.invariant-loop-left

@@ -1,10 +1,8 @@
 use borrow.Author.Rules.{rules}
-use Prim.Native.Nat.{◌*◌, ◌+◌}
+use Prim.Native.Nat.{◌*◌}
 use Rattle.model.proofs.Masks.{cleared_at}
-use Rattle.cells.specs.Cells.{cell_at}
-use Rattle.cells.proofs.Collects.{passed, passed_start}
-use Rattle.cells.proofs.Walks.{Part, whole}
-use Rattle.cover.specs.Covers.{Tabled}
+use Rattle.cells.proofs.Collects.{passed_start}
+use Rattle.cells.proofs.Walks.{whole}
 use Rattle.cover.proofs.Tables.{all_tabled, row_tabled, row_there, tabled_none}
 use Rattle.cover.proofs.table.put_near.Goals as goal
 
@@ -12,16 +10,16 @@ pub loop-left-init : goal.loop-left-init
 loop-left-init c = (tabled_none c.requires.2 (passed_start _), whole _)
 
 pub at_near-requires : goal.at_near-requires
-at_near-requires c =     let e = c.loop-left.invariant.1.at _ c.lowest-i.ensures.2 in
+at_near-requires c = let e = c.loop-left.invariant.1.at _ c.lowest-i.ensures.2 in
     let z = c.requires.1.there _ e in
     (c.requires.0.stands, c.requires.0.in_word _ e, c.requires.0.in_block _ e, search (rules, z))
 
 pub put_row-requires : goal.put_row-requires
-put_row-requires c =     let inv = c.loop-left.invariant in
+put_row-requires c = let inv = c.loop-left.invariant in
     (row_there c.args.book.now c.args.p.begin (64 * c.args.p.word) c.lowest-i.result c.at_near.ensures.place c.requires.1 (inv.1.at _ c.lowest-i.ensures.2), inv.0.table)
 
 pub loop-left-preserved : goal.loop-left-preserved
-loop-left-preserved c =     let inv = c.loop-left.invariant in
+loop-left-preserved c = let inv = c.loop-left.invariant in
     row_tabled c.args.book.now c.args.p.begin (64 * c.args.p.word) c.lowest-i.result c.at_near.ensures.place inv.1 (cleared_at c.lowest-i.ensures.0 c.without_lowest-left.ensures.0) inv.0 c.put_row.ensures
 
 pub returns : goal.returns

@@ -1,9 +1,5 @@
-use native.Mathlib.Omega.{arith}
-use borrow.Author.Rules.{rules}
-use Prim.Native.Nat.{◌-◌, ◌<◌, ◌≤◌}
-use Rattle.words.proofs.Cuts.{word_at}
-use Rattle.words.proofs.Places.{eight}
-use Rattle.cover.proofs.Tables.{Tabling, kept_readable, tabling_all, tabling_more, tabling_start}
+use Prim.Native.Nat.{◌-◌, ◌≤◌}
+use Rattle.cover.proofs.Tables.{Tabling}
 use Rattle.cover.proofs.table.put_sheet.Given as goal
 
 abbrev pub invariant-loop-p : goal.invariant-loop-p

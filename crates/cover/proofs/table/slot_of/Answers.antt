@@ -1,11 +1,10 @@
 use mathlib.Core.Path.{sym}
 use native.Mathlib.Omega.{arith}
-use borrow.Author.Rules.{rules}
 use Rattle.cover.proofs.Tables.{slot_any, slot_value}
 use Rattle.cover.proofs.table.slot_of.Goals as goal
 
 pub returns-then-x-lt32 : goal.returns-then-x-lt32
-returns-then-x-lt32 c =     let x = c.args.x in
+returns-then-x-lt32 c = let x = c.args.x in
     let e = slot_value x c.if-x-lt32.true in (omega (arith, e, c.wide.ensures), omega (arith, c.wide.ensures, c.if-x-lt32.true))
 
 pub returns : goal.returns

@@ -1,11 +1,8 @@
-use borrow.Author.Rules.{rules}
-use borrow.Author.Tests.{not-false, not-true}
-use mathlib.Core.Path.{◌≡◌, refl}
+use mathlib.Core.Path.{◌≡◌}
 use Prim.Native.Nat.{ℕ}
 use lib.ListN.{get_or}
-use Rattle.model.proofs.Masks.{bit_below, cleared_at}
 use Rattle.cover.specs.Covers.{ChosenFrom, MatchedBy}
-use Rattle.cover.proofs.Covers.{Tried, each_matched, every_matched, no_rows, one_missed, tried_all, tried_start, tried_turn}
+use Rattle.cover.proofs.Covers.{Tried}
 use Rattle.cover.proofs.test.all_matched.Given as goal
 
 abbrev pub invariant-loop-left : goal.invariant-loop-left

@@ -1,13 +1,10 @@
-use borrow.Author.Rules.{rules}
-use borrow.Author.Tests.{not-false, not-true}
-use mathlib.Core.Path.{◌≡◌, refl}
+use mathlib.Core.Path.{◌≡◌}
 use mathlib.Core.Bool.{true}
 use Prim.Native.Nat.{ℕ}
 use lib.ListN.{get_or}
 use Rattle.model.specs.Masks.{bit}
-use Rattle.model.proofs.Masks.{bit_below, bit_pow, bit_pow_only, cleared_at}
 use Rattle.cover.specs.Covers.{allowed_with}
-use Rattle.cover.proofs.Covers.{Tried, all_allowed, not_allowed, tried_all, tried_start, tried_turn}
+use Rattle.cover.proofs.Covers.{Tried}
 use Rattle.cover.proofs.test.allows_all.Given as goal
 
 abbrev pub invariant-loop-left : goal.invariant-loop-left

@@ -9,7 +9,7 @@ use borrow.Author.Rules.{rules}
 use Rattle.model.specs.Masks.{bit}
 use Rattle.model.proofs.Masks.{bit_below, bit_pow, bit_pow_only, cleared_at, ones32}
 use Rattle.cover.specs.Covers.{IsTable, allowed_with}
-use Rattle.cover.proofs.Covers.{Tried, all_allowed, allowed_small, none_outside, not_allowed, some_outside, tried_all, tried_start, tried_turn}
+use Rattle.cover.proofs.Covers.{all_allowed, allowed_small, none_outside, not_allowed, some_outside, tried_all, tried_start, tried_turn}
 use Rattle.cover.proofs.test.allows_with.Goals as goal
 
 -- what the code tests
@@ -32,18 +32,18 @@ pub loop-left-init : goal.loop-left-init
 loop-left-init c = tried_start refl
 
 pub bounds-table-e : goal.bounds-table-e
-bounds-table-e c =     omega (arith, bit_below 32 _ _ (c.requires.1.fits 1) (c.loop-left.invariant.part.at _ c.lowest-e.ensures.2))
+bounds-table-e c = omega (arith, bit_below 32 _ _ (c.requires.1.fits 1) (c.loop-left.invariant.part.at _ c.lowest-e.ensures.2))
 
 pub returns-then-wanted-any-ne0 : goal.returns-then-wanted-any-ne0
-returns-then-wanted-any-ne0 c =     let T = c.args.table.now in
+returns-then-wanted-any-ne0 c = let T = c.args.table.now in
     let e = c.lowest-e.result in
     let q = c.loop-left.invariant.part.at _ c.lowest-e.ensures.2 in
     let r = outside T c.args.x.now c.args.c e (c.requires.1.fits 0) c.requires.0 c.if-wanted-any-ne0.true in
     not_allowed r.0 e c.args.c r.1 q (bit_pow c.args.c) r.2
 
 pub loop-left-preserved : goal.loop-left-preserved
-loop-left-preserved c =     tried_turn c.loop-left.invariant (cleared_at c.lowest-e.ensures.0 c.without_lowest-left.ensures.0)
+loop-left-preserved c = tried_turn c.loop-left.invariant (cleared_at c.lowest-e.ensures.0 c.without_lowest-left.ensures.0)
     (inside c.args.table.now c.args.x.now c.args.c c.lowest-e.result (c.requires.1.fits 0) c.requires.0 c.if-wanted-any-ne0.false)
 
 pub returns : goal.returns
-returns c =     all_allowed (λ d p e q a r. rw (bit_pow_only c.args.c d p) (tried_all c.loop-left-test.false c.loop-left.invariant e q a r))
+returns c = all_allowed (λ d p e q a r. rw (bit_pow_only c.args.c d p) (tried_all c.loop-left-test.false c.loop-left.invariant e q a r))

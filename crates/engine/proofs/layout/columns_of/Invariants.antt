@@ -1,10 +1,5 @@
-use Prim.Native.Nat.{◌-◌, ◌<◌, ◌≤◌}
-use native.Mathlib.Omega.{arith}
-use borrow.Author.Rules.{rules}
-use Rattle.heads.specs.Heads.{width_of}
-use Rattle.words.proofs.Places.{column_below, eight, head_there, width_most}
-use Rattle.engine.proofs.Propagation.{at_sheet}
-use Rattle.engine.proofs.Layouts.{ColumnsTo, columns_end, columns_more, columns_none}
+use Prim.Native.Nat.{◌-◌, ◌≤◌}
+use Rattle.engine.proofs.Layouts.{ColumnsTo}
 use Rattle.engine.proofs.layout.columns_of.Given as goal
 
 abbrev pub invariant-loop-j : goal.invariant-loop-j

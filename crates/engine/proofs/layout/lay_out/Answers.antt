@@ -1,11 +1,10 @@
-use mathlib.Core.Path.{◌≡◌, ap, sym}
-use Prim.Native.Nat.{ℕ, ◌*◌, ◌-◌, ◌<◌, ◌≤◌}
+use mathlib.Core.Path.{ap, sym}
+use Prim.Native.Nat.{ℕ, ◌*◌, ◌<◌}
 use native.Mathlib.Omega.{arith}
 use borrow.Author.Rules.{rules}
 use Rattle.heads.specs.Heads.{sheets_of}
-use Rattle.rows.specs.Rows.{first_block}
 use Rattle.rows.proofs.Rows.{first_block_more, first_block_zero}
-use Rattle.engine.proofs.Layouts.{LaidTo, laid_end, laid_more, laid_none}
+use Rattle.engine.proofs.Layouts.{laid_end, laid_more, laid_none}
 use Rattle.engine.proofs.Worklists.{eight_sheets, head_length, rows_end}
 use Rattle.engine.proofs.layout.lay_out.Goals as goal
 
@@ -49,12 +48,11 @@ overflow_add-start c =
 
 pub loop-s-preserved : goal.loop-s-preserved
 loop-s-preserved c =
-    let one : c.loop-s.s < sheets_of c.args.book.now = omega (arith, c.sheets-n.ensures.0, c.loop-s-test.true) in
-    (
+    let one : c.loop-s.s < sheets_of c.args.book.now = omega (arith, c.sheets-n.ensures.0, c.loop-s-test.true) in (
       laid_more c.loop-s.invariant.0 (eight_sheets _ c.requires.0 _ one) (ap (λ (x : ℕ). 512 * x) c.loop-s.invariant.2) c.columns_of.ensures c.shorts_of.ensures,
       omega (arith, c.loop-s-test.true),
       rw (c.loop-s.invariant.2, c.blocks_of-start.ensures.0) (sym (first_block_more _ _)),
     )
 
 pub returns : goal.returns
-returns c =     laid_end c.requires.0 (omega (arith, c.sheets-n.ensures.0, c.loop-s-test.false, c.loop-s.invariant.1)) c.loop-s.invariant.0
+returns c = laid_end c.requires.0 (omega (arith, c.sheets-n.ensures.0, c.loop-s-test.false, c.loop-s.invariant.1)) c.loop-s.invariant.0

@@ -1,12 +1,5 @@
-use mathlib.Core.Path.{◌∙◌, ap}
-use Prim.Native.Nat.{ℕ, ◌-◌, ◌≤◌}
-use mathlib.Core.List.{List}
-use native.Mathlib.Omega.{arith}
-use borrow.Author.Rules.{rules}
-use Rattle.heads.specs.Blocks.{word}
-use Rattle.rows.specs.Bounds.{joined}
-use Rattle.engine.proofs.Layouts.{ShortTo, short_end, short_more, short_none}
-use Rattle.engine.proofs.Worklists.{eight_sheets, head_length, rows_end, rows_there}
+use Prim.Native.Nat.{◌-◌, ◌≤◌}
+use Rattle.engine.proofs.Layouts.{ShortTo}
 use Rattle.engine.proofs.layout.shorts_of.Given as goal
 
 abbrev pub invariant-loop-q : goal.invariant-loop-q

@@ -1,16 +1,8 @@
 -- Propagation. The invariant is `Going` (Propagation): what no waiting sheet has to look at is settled. A turn looks at one sheet (`going_on`); the values left,
 -- and then the sheets that wait, fall (`going_less`); when none waits the closure is reached (`going_done`).
-use mathlib.Core.Path.{◌∙◌, refl}
 use Prim.Native.Nat.{◌*◌, ◌+◌}
-use native.Mathlib.Omega.{arith}
-use lib.ListN.{length-set}
-use lib.Seq.{get_or-set_same}
-use borrow.Author.Rules.{rules}
-use borrow.Author.Tests.{not-false, not-true}
-use Rattle.model.specs.Masks.{Cleared}
 use Rattle.model.specs.Stores.{values}
-use Rattle.model.proofs.Masks.{cleared_at}
-use Rattle.engine.proofs.Propagation.{Going, at_laid, going_done, going_failed, going_less, going_on, going_start, known_as}
+use Rattle.engine.proofs.Propagation.{Going}
 use Rattle.engine.proofs.propagate.fixpoint.Given as goal
 
 abbrev pub invariant-loop-left : goal.invariant-loop-left

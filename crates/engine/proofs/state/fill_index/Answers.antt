@@ -1,8 +1,5 @@
 use mathlib.Core.Path.{◌≡◌, refl}
-use Prim.Native.Nat.{◌-◌, ◌≤◌}
 use native.Mathlib.Omega.{arith}
-use borrow.Author.Rules.{rules}
-use Rattle.engine.specs.Openings.{FullIndex}
 use Rattle.engine.proofs.Openings.{index_more}
 use Rattle.engine.proofs.state.fill_index.Goals as goal
 

@@ -1,11 +1,5 @@
-use mathlib.Core.Path.{◌≡◌, refl}
-use Prim.Native.Nat.{◌-◌, ◌<◌, ◌≤◌}
-use native.Mathlib.Omega.{arith}
-use borrow.Author.Rules.{rules}
-use Rattle.heads.specs.Heads.{sheets_of}
+use Prim.Native.Nat.{◌-◌, ◌≤◌}
 use Rattle.engine.specs.Openings.{FullRows}
-use Rattle.engine.proofs.Openings.{rows_more, rows_none}
-use Rattle.engine.proofs.Worklists.{eight_sheets, head_length, rows_few}
 use Rattle.engine.proofs.state.fill_rows.Given as goal
 
 abbrev pub invariant-loop-s : goal.invariant-loop-s

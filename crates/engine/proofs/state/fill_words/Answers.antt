@@ -1,8 +1,5 @@
 use mathlib.Core.Path.{◌≡◌}
-use Prim.Native.Nat.{◌-◌, ◌≤◌}
 use native.Mathlib.Omega.{arith}
-use borrow.Author.Rules.{rules}
-use Rattle.engine.specs.Openings.{FullWords}
 use Rattle.engine.proofs.Openings.{words_more, words_none}
 use Rattle.engine.proofs.state.fill_words.Goals as goal
 

@@ -1,5 +1,4 @@
 use native.Mathlib.Omega.{arith}
-use borrow.Author.Rules.{rules}
 use Rattle.engine.proofs.Openings.{word_all, word_none, word_some}
 use Rattle.engine.proofs.state.full_word.Goals as goal
 

@@ -1,5 +1,4 @@
 use mathlib.Core.Path.{sym}
-use borrow.Author.Rules.{rules}
 use Rattle.engine.proofs.Openings.{places_none, places_shifted}
 use Rattle.engine.proofs.state.places_below.Goals as goal
 

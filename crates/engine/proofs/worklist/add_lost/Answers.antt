@@ -1,8 +1,5 @@
 use mathlib.Core.Path.{◌≡◌}
-use Prim.Native.Nat.{◌-◌, ◌≤◌}
 use native.Mathlib.Omega.{arith}
-use borrow.Author.Rules.{rules}
-use Rattle.engine.specs.Worklists.{Added}
 use Rattle.engine.proofs.Worklists.{added_more, added_none}
 use Rattle.engine.proofs.worklist.add_lost.Goals as goal
 

@@ -1,8 +1,5 @@
 use mathlib.Core.Path.{◌≡◌}
-use Prim.Native.Nat.{◌-◌, ◌≤◌}
 use native.Mathlib.Omega.{arith}
-use borrow.Author.Rules.{rules}
-use Rattle.engine.specs.Worklists.{WaitingFor}
 use Rattle.engine.proofs.Worklists.{waiting_more, waiting_none}
 use Rattle.engine.proofs.worklist.waiting_for.Goals as goal
 

@@ -1,7 +1,6 @@
 use mathlib.Core.Path.{◌∙◌, refl, sym}
 use native.Mathlib.Omega.{arith}
 use lib.Pow.{pow-lt}
-use borrow.Author.Rules.{rules}
 use borrow.Author.Tests.{eq-eqb, ne_eqb}
 use Rattle.cells.proofs.Walks.{shifted_one}
 use Rattle.engine.specs.Worklists.{touches, waits_bit}

@@ -1,5 +1,4 @@
 use mathlib.Core.Path.{refl}
-use borrow.Author.Rules.{rules}
 use Rattle.engine.proofs.Worklists.{woken_none, woken_some}
 use Rattle.engine.proofs.worklist.wake.Goals as goal
 
@@ -7,5 +6,5 @@ pub returns-then-lost-eq0 : goal.returns-then-lost-eq0
 returns-then-lost-eq0 c = rw c.if-lost-eq0.true (woken_none c.requires.0 c.requires.2 c.requires.3)
 
 pub returns : goal.returns
-returns c =     let p = c.requires in
+returns c = let p = c.requires in
     woken_some p.0 p.2 p.3 p.1 c.add_lost.ensures c.waiting_for.ensures refl

@@ -1,12 +1,6 @@
-use mathlib.Core.Path.{◌≡◌, sym}
-use mathlib.Core.Bool.{false≢true}
 use Prim.Native.Nat.{◌-◌, ◌≤◌}
-use native.Mathlib.Nat.{le_refl}
-use native.Mathlib.Omega.{arith}
-use borrow.Author.Rules.{rules}
 use Rattle.model.specs.Tests.{NoneIn}
-use Rattle.model.proofs.Firsts.{none_empty, none_join}
-use Rattle.rows.specs.Rows.{blocks_of, wrong_block}
+use Rattle.rows.specs.Rows.{wrong_block}
 use Rattle.faults.proofs.doubt.doubt_in_blocks.Given as goal
 
 abbrev pub invariant-loop-q : goal.invariant-loop-q

@@ -1,5 +1,4 @@
 use native.Mathlib.Omega.{arith}
-use borrow.Author.Rules.{rules}
 use Rattle.model.proofs.Firsts.{none_empty}
 use Rattle.rows.specs.Rows.{blocks_of}
 use Rattle.faults.proofs.doubt.doubt_in_sheet.Goals as goal

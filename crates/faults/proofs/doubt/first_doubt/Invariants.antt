@@ -1,14 +1,7 @@
-use mathlib.Core.Path.{◌≡◌, sym}
-use Prim.Native.Nat.{◌-◌, ◌≤◌, ◌<◌}
-use native.Mathlib.Nat.{le_refl}
-use native.Mathlib.Omega.{arith}
-use borrow.Author.Rules.{rules}
+use mathlib.Core.Path.{◌≡◌}
+use Prim.Native.Nat.{◌-◌, ◌≤◌}
 use Rattle.model.specs.Tests.{NoneIn}
-use Rattle.model.proofs.Firsts.{none_any, none_empty, none_more}
-use Rattle.heads.specs.Heads.{sheets_of}
 use Rattle.rows.specs.Rows.{first_block, wrong_sheet}
-use Rattle.rows.proofs.Rows.{blocks_few, blocks_there, first_block_more, first_block_zero, head_there}
-use Rattle.heads.proofs.Heads.{sheets_most}
 use Rattle.faults.proofs.doubt.first_doubt.Given as goal
 
 abbrev pub invariant-loop-s : goal.invariant-loop-s

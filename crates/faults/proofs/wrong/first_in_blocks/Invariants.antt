@@ -1,9 +1,5 @@
-use mathlib.Core.Path.{sym, ◌∙◌}
 use Prim.Native.Nat.{◌-◌, ◌≤◌}
-use native.Mathlib.Nat.{le_refl}
-use borrow.Author.Rules.{rules}
 use Rattle.model.specs.Tests.{NoneIn}
-use Rattle.model.proofs.Firsts.{first_in_end, first_in_found, none_empty, none_more}
 use Rattle.rows.specs.Rows.{wrong_block}
 use Rattle.faults.proofs.wrong.first_in_blocks.Given as goal
 

@@ -1,14 +1,11 @@
 use mathlib.Core.Path.{sym, ◌∙◌}
-use Prim.Native.Nat.{◌*◌, ◌-◌, ◌≤◌}
 use borrow.Author.Rules.{rules}
-use Rattle.model.specs.Tests.{NoneIn}
 use Rattle.model.proofs.Firsts.{first_in_end, first_in_found, none_more}
-use Rattle.rows.specs.Bounds.{wrong_in}
 use Rattle.rows.proofs.Bounds.{rows_right}
 use Rattle.faults.proofs.wrong.seek_wrong.Goals as goal
 
 pub loop-i-init : goal.loop-i-init
-loop-i-init c =     let m = c.args.m in
+loop-i-init c = let m = c.args.m in
     let r = c.rows_under-i.ensures in
     (search rules, rows_right m.w m.x m.y m.z m.k _ _ _ r.0 r.1)
 

@@ -1,10 +1,6 @@
-use mathlib.Core.Path.{sym, ◌∙◌}
 use Prim.Native.Nat.{◌*◌, ◌-◌, ◌≤◌}
-use borrow.Author.Rules.{rules}
 use Rattle.model.specs.Tests.{NoneIn}
-use Rattle.model.proofs.Firsts.{first_in_end, first_in_found, none_more}
 use Rattle.rows.specs.Bounds.{wrong_in}
-use Rattle.rows.proofs.Bounds.{rows_right}
 use Rattle.faults.proofs.wrong.seek_wrong.Given as goal
 
 abbrev pub invariant-loop-i : goal.invariant-loop-i

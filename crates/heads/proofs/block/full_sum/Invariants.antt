@@ -1,7 +1,6 @@
-use Rattle.std.proofs.Common.{◌≡◌, ◌-◌, ◌%◌, ◌^◌, ◌≤◌, refl, arith, rules}
+use Rattle.std.proofs.Common.{◌≡◌, ◌-◌, ◌%◌, ◌^◌, ◌≤◌}
 use Rattle.model.specs.Tests.{sum}
 use Rattle.heads.specs.Blocks.{word}
-use Rattle.heads.proofs.Blocks.{sum_step}
 use Rattle.heads.proofs.block.full_sum.Given as goal
 
 abbrev pub invariant-loop-i : goal.invariant-loop-i

@@ -1,4 +1,4 @@
-use Rattle.std.proofs.Common.{◌^◌, ◌<◌, arith, rules}
+use Rattle.std.proofs.Common.{◌^◌, ◌<◌, arith}
 use Rattle.heads.proofs.Blocks.{check_wrong}
 use Rattle.heads.proofs.block.wrong_check.Goals as goal
 

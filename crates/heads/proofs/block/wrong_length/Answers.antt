@@ -1,4 +1,4 @@
-use Rattle.std.proofs.Common.{rules, eq-eqb, ne_eqb}
+use Rattle.std.proofs.Common.{eq-eqb, ne_eqb}
 use Rattle.heads.specs.Blocks.{wrong_length}
 use Rattle.heads.proofs.block.wrong_length.Goals as goal
 

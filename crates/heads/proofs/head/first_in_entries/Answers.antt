@@ -7,6 +7,6 @@ pub returns-then-i-end : goal.returns-then-i-end
 returns-then-i-end c = first_in_wider _ (search rules) c.first_in_used-i.ensures c.if-i-end.true
 
 pub returns : goal.returns
-returns c =     let b = c.args.h.now in
+returns c = let b = c.args.h.now in
     first_in_join (search rules) (first_in_none c.first_in_used-i.ensures c.if-i-end.false)
     (first_in_same (λ i p q. sym (field_unused b i (omega arith) q)) c.first_set.ensures)

@@ -1,7 +1,5 @@
-use Rattle.std.proofs.Common.{◌≡◌, ◌+◌, ◌-◌, ◌*◌, ◌≤◌, le_refl, arith, rules}
-use Rattle.model.specs.Tests.{NoneIn}
+use Rattle.std.proofs.Common.{◌≡◌, ◌+◌, ◌*◌, le_refl, arith, rules}
 use Rattle.model.proofs.Firsts.{first_in_end, first_in_join, first_in_none, first_in_wider, none_empty, none_join}
-use Rattle.heads.specs.Heads.{wrong_field}
 use Rattle.heads.proofs.head.first_in_used.Goals as goal
 
 pub loop-s-init : goal.loop-s-init
@@ -11,7 +9,7 @@ pub returns-then-i-s : goal.returns-then-i-s
 returns-then-i-s c = first_in_join (search rules) c.loop-s.invariant.1 (first_in_wider _ (search rules) c.first_in_entry-i.ensures c.if-i-s.true)
 
 pub loop-s-preserved : goal.loop-s-preserved
-loop-s-preserved c =     let e : 24 + 8 * (c.loop-s.s + 1) ≡ 32 + 8 * c.loop-s.s = omega arith in
+loop-s-preserved c = let e : 24 + 8 * (c.loop-s.s + 1) ≡ 32 + 8 * c.loop-s.s = omega arith in
     (search rules, rw e (none_join c.loop-s.invariant.1 (first_in_none c.first_in_entry-i.ensures c.if-i-s.false)))
 
 pub returns : goal.returns

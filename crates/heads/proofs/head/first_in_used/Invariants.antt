@@ -1,6 +1,5 @@
-use Rattle.std.proofs.Common.{◌≡◌, ◌+◌, ◌-◌, ◌*◌, ◌≤◌, le_refl, arith, rules}
+use Rattle.std.proofs.Common.{◌+◌, ◌-◌, ◌*◌, ◌≤◌}
 use Rattle.model.specs.Tests.{NoneIn}
-use Rattle.model.proofs.Firsts.{first_in_end, first_in_join, first_in_none, first_in_wider, none_empty, none_join}
 use Rattle.heads.specs.Heads.{wrong_field}
 use Rattle.heads.proofs.head.first_in_used.Given as goal
 

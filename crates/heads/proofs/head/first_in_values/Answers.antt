@@ -1,7 +1,5 @@
-use Rattle.std.proofs.Common.{◌+◌, ◌-◌, ◌≤◌, sym, ◌∙◌, le_refl, arith, rules}
-use Rattle.model.specs.Tests.{NoneIn}
+use Rattle.std.proofs.Common.{sym, ◌∙◌, le_refl, arith, rules}
 use Rattle.model.proofs.Firsts.{first_in_end, first_in_found, none_empty, none_to}
-use Rattle.heads.specs.Heads.{wrong_field}
 use Rattle.heads.proofs.Heads.{field_values}
 use Rattle.heads.proofs.head.first_in_values.Goals as goal
 
@@ -9,7 +7,7 @@ pub loop-c-init : goal.loop-c-init
 loop-c-init c = (search rules, none_empty (le_refl _))
 
 pub returns-then-wrong_values : goal.returns-then-wrong_values
-returns-then-wrong_values c =     let b = c.args.h.now in
+returns-then-wrong_values c = let b = c.args.h.now in
     first_in_found (search rules) (search rules) c.loop-c.invariant.1
     (field_values b _ c.loop-c-test.true ∙ sym c.wrong_values.ensures ∙ c.if-wrong_values.true)
 

@@ -1,8 +1,6 @@
-use Rattle.std.proofs.Common.{◌+◌, ◌-◌, ◌≤◌, sym, ◌∙◌, le_refl, arith, rules}
+use Rattle.std.proofs.Common.{◌+◌, ◌-◌, ◌≤◌}
 use Rattle.model.specs.Tests.{NoneIn}
-use Rattle.model.proofs.Firsts.{first_in_end, first_in_found, none_empty, none_to}
 use Rattle.heads.specs.Heads.{wrong_field}
-use Rattle.heads.proofs.Heads.{field_values}
 use Rattle.heads.proofs.head.first_in_values.Given as goal
 
 abbrev pub invariant-loop-c : goal.invariant-loop-c

@@ -1,4 +1,4 @@
-use Rattle.std.proofs.Common.{leb, ap, rules}
+use Rattle.std.proofs.Common.{leb, ap}
 use Rattle.heads.specs.Heads.{forbids_of}
 use Rattle.heads.proofs.head.forbids.Goals as goal
 

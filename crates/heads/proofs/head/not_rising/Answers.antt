@@ -1,4 +1,4 @@
-use Rattle.std.proofs.Common.{rules, eq-eqb, ne_eqb}
+use Rattle.std.proofs.Common.{eq-eqb, ne_eqb}
 use Rattle.heads.specs.Heads.{not_rising}
 use Rattle.heads.proofs.head.not_rising.Goals as goal
 

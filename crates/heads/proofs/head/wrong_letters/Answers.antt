@@ -1,4 +1,3 @@
-use Rattle.std.proofs.Common.{rules}
 use Rattle.heads.specs.Heads.{wrong_letters}
 use Rattle.heads.proofs.head.wrong_letters.Goals as goal
 

@@ -1,4 +1,4 @@
-use Rattle.std.proofs.Common.{◌∙◌, rules}
+use Rattle.std.proofs.Common.{◌∙◌}
 use Rattle.heads.specs.Heads.{wrong_width}
 use Rattle.heads.proofs.head.wrong_width.Goals as goal
 

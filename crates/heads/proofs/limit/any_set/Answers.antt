@@ -1,7 +1,5 @@
-use Rattle.std.proofs.Common.{◌≡◌, ◌-◌, ◌≤◌, not, eqb, le_refl, arith, rules}
-use Rattle.model.specs.Tests.{Finds}
+use Rattle.std.proofs.Common.{◌≡◌, le_refl, arith, rules}
 use Rattle.model.proofs.Firsts.{finds_empty, finds_more}
-use Rattle.heads.specs.Limits.{set_at}
 use Rattle.heads.proofs.Limits.{or_set}
 use Rattle.heads.proofs.limit.any_set.Goals as goal
 

@@ -1,8 +1,6 @@
-use Rattle.std.proofs.Common.{◌≡◌, ◌-◌, ◌≤◌, not, eqb, le_refl, arith, rules}
+use Rattle.std.proofs.Common.{◌-◌, ◌≤◌, not, eqb}
 use Rattle.model.specs.Tests.{Finds}
-use Rattle.model.proofs.Firsts.{finds_empty, finds_more}
 use Rattle.heads.specs.Limits.{set_at}
-use Rattle.heads.proofs.Limits.{or_set}
 use Rattle.heads.proofs.limit.any_set.Given as goal
 
 abbrev pub invariant-loop-i : goal.invariant-loop-i

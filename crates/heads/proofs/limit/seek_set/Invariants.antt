@@ -1,6 +1,5 @@
-use Rattle.std.proofs.Common.{◌-◌, ◌≤◌, sym, ◌∙◌, le_refl, rules}
+use Rattle.std.proofs.Common.{◌-◌, ◌≤◌}
 use Rattle.model.specs.Tests.{NoneIn}
-use Rattle.model.proofs.Firsts.{first_in_end, first_in_found, none_empty, none_more}
 use Rattle.heads.specs.Limits.{set_at}
 use Rattle.heads.proofs.limit.seek_set.Given as goal
 

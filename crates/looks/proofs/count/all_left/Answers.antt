@@ -1,4 +1,3 @@
-use borrow.Author.Rules.{rules}
 use Rattle.looks.proofs.Counts.{same_four}
 use Rattle.looks.proofs.count.all_left.Goals as goal
 

@@ -1,4 +1,3 @@
-use borrow.Author.Rules.{rules}
 use Rattle.looks.proofs.Counts.{few_ones, others_made}
 use Rattle.looks.proofs.count.choices_of.Goals as goal
 
@@ -15,4 +14,4 @@ pub times-requires-4 : goal.times-requires-4
 times-requires-4 c = let h = c.requires.0 in (few_ones h 0, few_ones h 1, few_ones h 2)
 
 pub returns : goal.returns
-returns c =     others_made c.requires.0 c.requires.1 c.times.ensures c.times-2.ensures c.times-3.ensures c.times-4.ensures
+returns c = others_made c.requires.0 c.requires.1 c.times.ensures c.times-2.ensures c.times-3.ensures c.times-4.ensures

@@ -1,10 +1,9 @@
 use mathlib.Core.Path.{◌≡◌, refl}
-use Prim.Native.Nat.{◌-◌, ◌<◌, ◌≤◌}
+use Prim.Native.Nat.{◌<◌}
 use native.Mathlib.Omega.{arith}
 use borrow.Author.Rules.{rules}
 use Rattle.words.proofs.Cuts.{word_at}
 use Rattle.words.proofs.Places.{eight}
-use Rattle.looks.specs.Counts.{CountsTo}
 use Rattle.looks.proofs.Counts.{counts_more, counts_none, counts_room}
 use Rattle.looks.proofs.count.count_sheet.Goals as goal
 
@@ -26,7 +25,7 @@ pub offset_bounds-valid-s : goal.offset_bounds-valid-s
 offset_bounds-valid-s c = let q = eight c.requires.0 in search (rules, q)
 
 pub bounds-valid-s : goal.bounds-valid-s
-bounds-valid-s c =     let q = eight c.requires.0 in
+bounds-valid-s c = let q = eight c.requires.0 in
     omega (arith, c.word_number-w.ensures.1)
 
 pub counted-requires : goal.counted-requires
@@ -37,8 +36,8 @@ counted-requires c =
     (e.1, r.0, r.1, counts_room c.loop-p.invariant.0 position)
 
 pub loop-p-preserved : goal.loop-p-preserved
-loop-p-preserved c =     (counts_more c.requires.0.begins c.word_number-w.ensures.0 refl c.loop-p.invariant.0 c.counted.ensures, omega (arith, c.loop-p-test.true))
+loop-p-preserved c = (counts_more c.requires.0.begins c.word_number-w.ensures.0 refl c.loop-p.invariant.0 c.counted.ensures, omega (arith, c.loop-p-test.true))
 
 pub returns : goal.returns
-returns c =     let e : c.loop-p.p ≡ c.args.n = omega (arith, c.loop-p-test.false, c.loop-p.invariant.1) in
+returns c = let e : c.loop-p.p ≡ c.args.n = omega (arith, c.loop-p-test.false, c.loop-p.invariant.1) in
     rw e at c.loop-p.invariant.0

@@ -2,8 +2,8 @@ use Prim.Native.Nat.{◌<◌}
 use native.Mathlib.Omega.{arith}
 use borrow.Author.Rules.{rules}
 use Rattle.model.proofs.Masks.{bit_below, cleared_at}
-use Rattle.cells.proofs.Walks.{Part, part_cleared, whole}
-use Rattle.looks.proofs.Counts.{Keeping, keeping_end, keeping_start, keeping_turn}
+use Rattle.cells.proofs.Walks.{part_cleared, whole}
+use Rattle.looks.proofs.Counts.{keeping_end, keeping_start, keeping_turn}
 use Rattle.looks.proofs.count.not_full.Goals as goal
 
 pub loop-left-init : goal.loop-left-init
@@ -25,7 +25,7 @@ with_value-keep-requires c =
     value
 
 pub loop-left-preserved : goal.loop-left-preserved
-loop-left-preserved c =     let z = cleared_at c.lowest-v.ensures.0 c.without_lowest-left.ensures.0 in
+loop-left-preserved c = let z = cleared_at c.lowest-v.ensures.0 c.without_lowest-left.ensures.0 in
     (keeping_turn c.loop-left.invariant.0 c.loop-left.invariant.1 z c.with_value-keep.ensures, part_cleared z c.loop-left.invariant.1)
 
 pub returns : goal.returns

@@ -1,9 +1,5 @@
-use Prim.Native.Nat.{◌<◌}
-use native.Mathlib.Omega.{arith}
-use borrow.Author.Rules.{rules}
-use Rattle.model.proofs.Masks.{bit_below, cleared_at}
-use Rattle.cells.proofs.Walks.{Part, part_cleared, whole}
-use Rattle.looks.proofs.Counts.{Keeping, keeping_end, keeping_start, keeping_turn}
+use Rattle.cells.proofs.Walks.{Part}
+use Rattle.looks.proofs.Counts.{Keeping}
 use Rattle.looks.proofs.count.not_full.Given as goal
 
 abbrev pub invariant-loop-left : goal.invariant-loop-left

@@ -1,5 +1,4 @@
 use native.Mathlib.Omega.{arith}
-use borrow.Author.Rules.{rules}
 use Rattle.looks.proofs.Counts.{none_full}
 use Rattle.looks.proofs.count.place_left.Goals as goal
 

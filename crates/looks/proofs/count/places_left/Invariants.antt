@@ -1,9 +1,5 @@
-use mathlib.Core.Path.{◌≡◌}
 use Prim.Native.Nat.{◌-◌, ◌≤◌}
-use native.Mathlib.Omega.{arith}
-use borrow.Author.Rules.{rules}
 use Rattle.looks.specs.Counts.{NotFullTo}
-use Rattle.looks.proofs.Counts.{places_more, places_none}
 use Rattle.looks.proofs.count.places_left.Given as goal
 
 abbrev pub invariant-loop-j : goal.invariant-loop-j

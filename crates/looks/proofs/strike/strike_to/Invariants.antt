@@ -1,11 +1,5 @@
-use mathlib.Core.Path.{◌≡◌}
-use Prim.Native.Nat.{◌-◌, ◌<◌, ◌≤◌}
-use native.Mathlib.Omega.{arith}
-use borrow.Author.Rules.{rules}
-use Rattle.heads.specs.Heads.{width_of}
+use Prim.Native.Nat.{◌-◌, ◌≤◌}
 use Rattle.looks.specs.Strikes.{StruckTo}
-use Rattle.words.proofs.Places.{eight, head_there, width_most}
-use Rattle.looks.proofs.Strikes.{struck_more, struck_none}
 use Rattle.looks.proofs.strike.strike_to.Given as goal
 
 abbrev pub invariant-loop-j : goal.invariant-loop-j

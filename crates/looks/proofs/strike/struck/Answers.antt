@@ -13,19 +13,19 @@ pub column-c-requires : goal.column-c-requires
 column-c-requires c = (head_there c.requires.0, eight c.requires.0, c.requires.1)
 
 pub bounds-dom-c : goal.bounds-dom-c
-bounds-dom-c c =     let l : c.args.j < width_of c.args.book.now c.args.s = omega (arith, c.if-j-width.true, c.width.ensures.0) in
+bounds-dom-c c = let l : c.args.j < width_of c.args.book.now c.args.s = omega (arith, c.if-j-width.true, c.width.ensures.0) in
     omega (arith, c.column-c.ensures.0, column_below c.requires.0 _ l)
 
 pub bounds-dom-c-then-e-d : goal.bounds-dom-c-then-e-d
-bounds-dom-c-then-e-d c =     let l : c.args.j < width_of c.args.book.now c.args.s = omega (arith, c.if-j-width.true, c.width.ensures.0) in
+bounds-dom-c-then-e-d c = let l : c.args.j < width_of c.args.book.now c.args.s = omega (arith, c.if-j-width.true, c.width.ensures.0) in
     omega (arith, c.column-c.ensures.0, column_below c.requires.0 _ l)
 
 pub overflow_shl-result : goal.overflow_shl-result
-overflow_shl-result c =     let l : c.args.j < width_of c.args.book.now c.args.s = omega (arith, c.if-j-width.true, c.width.ensures.0) in
+overflow_shl-result c = let l : c.args.j < width_of c.args.book.now c.args.s = omega (arith, c.if-j-width.true, c.width.ensures.0) in
     omega (arith, c.column-c.ensures.0, column_below c.requires.0 _ l)
 
 pub returns-then-e-d : goal.returns-then-e-d
-returns-then-e-d c =     let p = c.requires in
+returns-then-e-d c = let p = c.requires in
     struck_some _ _ p.0 p.2 c.column-c.ensures.0 (omega (arith, c.if-j-width.true, c.width.ensures.0)) (search rules)
 
 pub returns-else-e-d : goal.returns-else-e-d

@@ -1,4 +1,4 @@
-use Rattle.std.proofs.Common.{sym, ◌∙◌, rules}
+use Rattle.std.proofs.Common.{sym, ◌∙◌}
 use Rattle.rows.specs.Rows.{any_places}
 use Rattle.rows.proofs.row.any_places.Goals as goal
 

@@ -1,7 +1,5 @@
-use Rattle.std.proofs.Common.{◌≡◌, ◌-◌, ◌≤◌, le_refl, arith, rules}
-use Rattle.model.specs.Tests.{Finds}
+use Rattle.std.proofs.Common.{◌≡◌, le_refl, arith, rules}
 use Rattle.model.proofs.Firsts.{finds_empty, finds_more}
-use Rattle.rows.specs.Bounds.{any_high, turned_row}
 use Rattle.rows.proofs.Bounds.{turned_more}
 use Rattle.rows.proofs.Words.{high_zero}
 use Rattle.rows.proofs.row.any_turned.Goals as goal
@@ -10,7 +8,7 @@ pub loop-i-init : goal.loop-i-init
 loop-i-init c = (search rules, rw high_zero (finds_empty (le_refl _)))
 
 pub loop-i-preserved : goal.loop-i-preserved
-loop-i-preserved c =     let k = c.args in
+loop-i-preserved c = let k = c.args in
     (search rules, rw (turned_more k.b.now k.o k.slack c.loop-i.i _ _ _ _ c.word_at.ensures c.turn-t.ensures c.wrapping_add_u32.ensures.value) (finds_more _ (search rules) c.loop-i.invariant.1))
 
 pub returns : goal.returns

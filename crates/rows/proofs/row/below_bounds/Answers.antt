@@ -1,4 +1,4 @@
-use Rattle.std.proofs.Common.{◌/◌, ◌%◌, ◌<◌, ◌≤◌, arith, rules, le-ltb, lt-ltb}
+use Rattle.std.proofs.Common.{◌/◌, ◌%◌, ◌<◌, ◌≤◌, arith, le-ltb, lt-ltb}
 use Rattle.rows.specs.Bounds.{below_bounds}
 use Rattle.rows.proofs.row.below_bounds.Goals as goal
 
@@ -17,7 +17,7 @@ returns-then-v-wide32-2 c = let k = c.args in
 
 pub returns-then-v-wide32-3 : goal.returns-then-v-wide32-3
 unfolding below_bounds
-returns-then-v-wide32-3 c =     let k = c.args in
+returns-then-v-wide32-3 c = let k = c.args in
     let p : k.v % 256 < k.m.w = omega arith in
     let q : k.v / 256 % 256 < k.m.x = omega arith in
     let r : k.m.y ≤ k.v / 65536 % 256 = omega arith in
@@ -25,7 +25,7 @@ returns-then-v-wide32-3 c =     let k = c.args in
 
 pub returns : goal.returns
 unfolding below_bounds
-returns c =     let k = c.args in
+returns c = let k = c.args in
     let p : k.v % 256 < k.m.w = omega arith in
     let q : k.v / 256 % 256 < k.m.x = omega arith in
     let r : k.v / 65536 % 256 < k.m.y = omega arith in

@@ -1,4 +1,4 @@
-use Rattle.std.proofs.Common.{ℕ, ◌+◌, ◌/◌, ap, arith, rules}
+use Rattle.std.proofs.Common.{ℕ, ◌+◌, ◌/◌, ap, arith}
 use Rattle.rows.specs.Rows.{blocks_of}
 use Rattle.rows.proofs.row.blocks_of.Goals as goal
 

@@ -1,5 +1,4 @@
-use Rattle.std.proofs.Common.{◌≡◌, ◌+◌, ◌-◌, ◌*◌, ◌≤◌, sym, arith, rules}
-use Rattle.rows.specs.Rows.{first_block}
+use Rattle.std.proofs.Common.{◌≡◌, sym, arith, rules}
 use Rattle.rows.proofs.Rows.{first_block_more, first_block_zero}
 use Rattle.rows.proofs.row.first_block.Goals as goal
 

@@ -1,6 +1,5 @@
-use Rattle.std.proofs.Common.{◌≡◌, ◌+◌, ◌-◌, ◌*◌, ◌≤◌, sym, arith, rules}
+use Rattle.std.proofs.Common.{◌≡◌, ◌+◌, ◌-◌, ◌*◌, ◌≤◌}
 use Rattle.rows.specs.Rows.{first_block}
-use Rattle.rows.proofs.Rows.{first_block_more, first_block_zero}
 use Rattle.rows.proofs.row.first_block.Given as goal
 
 abbrev pub invariant-loop-t : goal.invariant-loop-t

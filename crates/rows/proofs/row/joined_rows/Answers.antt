@@ -1,4 +1,4 @@
-use Rattle.std.proofs.Common.{◌≡◌, ◌-◌, ◌≤◌, refl, arith, rules}
+use Rattle.std.proofs.Common.{◌≡◌, refl, arith, rules}
 use Rattle.heads.specs.Blocks.{word}
 use Rattle.rows.specs.Bounds.{joined}
 use Rattle.rows.proofs.Bounds.{joined_more}

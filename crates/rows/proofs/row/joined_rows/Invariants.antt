@@ -1,7 +1,6 @@
-use Rattle.std.proofs.Common.{◌≡◌, ◌-◌, ◌≤◌, refl, arith, rules}
+use Rattle.std.proofs.Common.{◌≡◌, ◌-◌, ◌≤◌}
 use Rattle.heads.specs.Blocks.{word}
 use Rattle.rows.specs.Bounds.{joined}
-use Rattle.rows.proofs.Bounds.{joined_more}
 use Rattle.rows.proofs.row.joined_rows.Given as goal
 
 abbrev pub invariant-loop-i : goal.invariant-loop-i

@@ -1,4 +1,4 @@
-use Rattle.std.proofs.Common.{arith, rules, le-ltb, lt-ltb, le-leb}
+use Rattle.std.proofs.Common.{arith, le-ltb, lt-ltb, le-leb}
 use borrow.Author.Tests.{lt-leb}
 use Rattle.rows.specs.Bounds.{fourth}
 use Rattle.rows.proofs.row.over_bound.Goals as goal

@@ -12,7 +12,7 @@ column-c-requires c = (search rules, omega (arith, sheets_most c.args.h.now c.re
 
 pub returns-then-j-width : goal.returns-then-j-width
 unfolding place_bound
-returns-then-j-width c =     let b = c.args.h.now in
+returns-then-j-width c = let b = c.args.h.now in
     let p : c.args.j < width_of b c.args.s = omega arith in
     let v = values_range b c.requires.1 _ (column_inside b c.requires.1 c.args.s c.requires.2 _ p) in
     rw (lt-ltb _ _ p, c.column-c.ensures.0) (refl, v.0, omega (arith, v.1))

@@ -1,8 +1,8 @@
-use Rattle.std.proofs.Common.{ℕ, ◌-◌, ◌<◌, ◌≤◌, sym, ◌∙◌, le_refl, arith, rules}
+use Rattle.std.proofs.Common.{ℕ, ◌<◌, sym, ◌∙◌, le_refl, arith, rules}
 use Rattle.fields.specs.Bytes.{byte_at}
 use Rattle.model.specs.Tests.{NoneIn}
 use Rattle.model.proofs.Firsts.{none_empty, none_more}
-use Rattle.rows.specs.Bounds.{over_bounds, turned_row}
+use Rattle.rows.specs.Bounds.{over_bounds}
 use Rattle.rows.proofs.Bounds.{turned_high, turned_none}
 use Rattle.rows.proofs.Words.{turn_small}
 use Rattle.rows.proofs.row.rows_under.Goals as goal
@@ -11,7 +11,7 @@ pub loop-r-init : goal.loop-r-init
 loop-r-init c = (search rules, none_empty (le_refl _))
 
 pub turn-t-requires : goal.turn-t-requires
-turn-t-requires c =     rw c.turn_of-o.ensures (turn_small c.args.m.k)
+turn-t-requires c = rw c.turn_of-o.ensures (turn_small c.args.m.k)
 
 pub returns-then-any_high : goal.returns-then-any_high
 returns-then-any_high c =
@@ -22,7 +22,7 @@ returns-then-any_high c =
     (search rules, under)
 
 pub loop-r-preserved : goal.loop-r-preserved
-loop-r-preserved c =     let k = c.args in
+loop-r-preserved c = let k = c.args in
     let e = turned_high k.b.now _ _ c.loop-r.r _ _ _ c.word_at.ensures c.turn-t.ensures c.wrapping_add_u32.ensures.value in
     (search rules, none_more c.loop-r.invariant.1 (sym e ∙ sym c.any_high.ensures ∙ c.if-any_high.false))
 

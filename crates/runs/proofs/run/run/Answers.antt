@@ -24,19 +24,19 @@ returns-then-answers-needed c = space_short _ _ _ c.check-verdict.ensures c.if-v
 pub run_orders-r-requires : goal.run_orders-r-requires
 run_orders-r-requires c =
     let right : let a = c.args in RightInput a.book.now a.orders.now (length a.answers.now) = record {
-  book = rw (← c.check-verdict.ensures) c.if-verdict-ge65536.false;
-  list = sym c.wrong_list.ensures ∙ c.if-wrong_list.false;
-  enough = omega (arith, c.if-answers-needed.false);
-} in
+      book = rw (← c.check-verdict.ensures) c.if-verdict-ge65536.false;
+      list = sym c.wrong_list.ensures ∙ c.if-wrong_list.false;
+      enough = omega (arith, c.if-answers-needed.false);
+    } in
     right
 
 pub returns : goal.returns
 returns c =
     let right : let a = c.args in RightInput a.book.now a.orders.now (length a.answers.now) = record {
-  book = rw (← c.check-verdict.ensures) c.if-verdict-ge65536.false;
-  list = sym c.wrong_list.ensures ∙ c.if-wrong_list.false;
-  enough = omega (arith, c.if-answers-needed.false);
-} in
+      book = rw (← c.check-verdict.ensures) c.if-verdict-ge65536.false;
+      list = sym c.wrong_list.ensures ∙ c.if-wrong_list.false;
+      enough = omega (arith, c.if-answers-needed.false);
+    } in
     let r = c.run_orders-r.ensures in
     let e = right_zero _ _ _ right in
     (r.counts ∙ sym (result_accepted _ _ _ e), r.wrote ∙ sym (space_accepted _ _ _ e))

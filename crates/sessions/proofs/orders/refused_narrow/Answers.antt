@@ -3,7 +3,6 @@ use mathlib.Core.List.{List}
 use mathlib.Core.Bool.{Bool, cond, false, true}
 use Prim.Native.Nat.{◌<◌, ◌≤◌, ℕ}
 use native.Mathlib.Omega.{arith}
-use borrow.Author.Rules.{rules}
 use borrow.Author.Tests.{le-leb, lt-leb}
 use Rattle.model.specs.Books.{column_count}
 use Rattle.model.specs.Orders.{argument, first_cause, mask, narrow_causes, outside}
@@ -17,7 +16,7 @@ columns-requires c = head_length _ c.requires.0
 
 pub returns-then-columns-c : goal.returns-then-columns-c
 unfolding first_cause
-returns-then-columns-c c =     let q : column_count (book_of c.args.book.now) ≤ argument c.args.order.now = omega (arith, columns_count c.args.book.now, c.columns.ensures.0, c.wide-c.ensures.0, c.if-columns-c.true) in
+returns-then-columns-c c = let q : column_count (book_of c.args.book.now) ≤ argument c.args.order.now = omega (arith, columns_count c.args.book.now, c.columns.ensures.0, c.wide-c.ensures.0, c.if-columns-c.true) in
     rw (le-leb _ _ q)
 
 -- the first cause is passed over: what the last one says decides

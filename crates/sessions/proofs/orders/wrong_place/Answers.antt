@@ -1,6 +1,5 @@
 use mathlib.Core.Path.{◌≡◌}
 use native.Mathlib.Omega.{arith}
-use borrow.Author.Rules.{rules}
 use Rattle.model.specs.Masks.{bit}
 use Rattle.model.specs.Orders.{wrong_place}
 use Rattle.sessions.proofs.orders.wrong_place.Goals as goal

@@ -14,4 +14,4 @@ pub returns-then-kind-eq4 : goal.returns-then-kind-eq4
 returns-then-kind-eq4 c = rw c.if-kind-eq4.true
 
 pub returns : goal.returns
-returns c =     rw (ne_eqb _ 1 c.if-kind-eq1.false, ne_eqb _ 2 c.if-kind-eq2.false, ne_eqb _ 3 c.if-kind-eq3.false, ne_eqb _ 4 c.if-kind-eq4.false)
+returns c = rw (ne_eqb _ 1 c.if-kind-eq1.false, ne_eqb _ 2 c.if-kind-eq2.false, ne_eqb _ 3 c.if-kind-eq3.false, ne_eqb _ 4 c.if-kind-eq4.false)

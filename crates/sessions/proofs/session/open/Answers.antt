@@ -1,5 +1,4 @@
 use mathlib.Core.Path.{refl}
-use borrow.Author.Rules.{rules}
 use Rattle.sessions.proofs.Holds.{open_holds}
 use Rattle.sessions.proofs.session.open.Goals as goal
 

@@ -1,9 +1,7 @@
 use mathlib.Core.Path.{◌≡◌}
 use Prim.Native.Nat.{◌+◌, ◌-◌}
 use native.Mathlib.Omega.{arith}
-use borrow.Author.Rules.{rules}
-use Rattle.words.specs.Sheets.{SheetWords, value_in}
-use Rattle.words.proofs.Cuts.{Cutting, cutting_end, cutting_words, cutting_more, cutting_start}
+use Rattle.words.proofs.Cuts.{cutting_end, cutting_words, cutting_more, cutting_start}
 use Rattle.words.proofs.Places.{eight}
 use Rattle.words.proofs.cut.cut.Goals as goal
 
@@ -14,7 +12,7 @@ pub loop-p-init : goal.loop-p-init
 loop-p-init c = (cutting_start _ c.before.requires.2 c.nonzero_words-p.ensures.0, c.before.requires.2)
 
 pub loop-p-preserved : goal.loop-p-preserved
-loop-p-preserved c =     let e : c.loop-p.p ≡ c.loop-p.p - 1 + 1 = omega (arith, c.loop-p-test.true) in
+loop-p-preserved c = let e : c.loop-p.p ≡ c.loop-p.p - 1 + 1 = omega (arith, c.loop-p-test.true) in
     let h = cutting_more (rw e at c.loop-p.invariant.0) c.cut_word-any.ensures.0 c.cut_word-any.ensures.1 in (h, cutting_words h c.requires.2)
 
 pub returns : goal.returns

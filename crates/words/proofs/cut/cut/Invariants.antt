@@ -1,10 +1,5 @@
-use mathlib.Core.Path.{◌≡◌}
-use Prim.Native.Nat.{◌+◌, ◌-◌}
-use native.Mathlib.Omega.{arith}
-use borrow.Author.Rules.{rules}
 use Rattle.words.specs.Sheets.{SheetWords, value_in}
-use Rattle.words.proofs.Cuts.{Cutting, cutting_end, cutting_words, cutting_more, cutting_start}
-use Rattle.words.proofs.Places.{eight}
+use Rattle.words.proofs.Cuts.{Cutting}
 use Rattle.words.proofs.cut.cut.Given as goal
 
 abbrev pub invariant-loop-p : goal.invariant-loop-p

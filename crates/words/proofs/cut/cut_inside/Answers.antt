@@ -2,10 +2,7 @@ use mathlib.Core.Path.{◌≡◌, sym}
 use mathlib.Core.Bool.{false≢true, true}
 use Prim.Native.Nat.{◌+◌, ◌-◌}
 use native.Mathlib.Omega.{arith}
-use borrow.Author.Rules.{rules}
-use Rattle.cells.specs.Cells.{row_inside}
-use Rattle.words.specs.Sheets.{SheetWords}
-use Rattle.words.proofs.Cuts.{Cutting, cutting_end, cutting_words, cutting_more, cutting_start}
+use Rattle.words.proofs.Cuts.{cutting_end, cutting_words, cutting_more, cutting_start}
 use Rattle.words.proofs.Places.{eight}
 use Rattle.words.proofs.cut.cut_inside.Goals as goal
 
@@ -16,7 +13,7 @@ pub loop-p-init : goal.loop-p-init
 loop-p-init c = (cutting_start _ c.before.requires.1 c.nonzero_words-p.ensures.0, c.before.requires.1)
 
 pub loop-p-preserved : goal.loop-p-preserved
-loop-p-preserved c =     let e : c.loop-p.p ≡ c.loop-p.p - 1 + 1 = omega (arith, c.loop-p-test.true) in
+loop-p-preserved c = let e : c.loop-p.p ≡ c.loop-p.p - 1 + 1 = omega (arith, c.loop-p-test.true) in
     let h = cutting_more {r = true} (rw e at c.loop-p.invariant.0) c.cut_word_inside.ensures (λ e. absurd (false≢true (sym e))) in (h, cutting_words h c.requires.1)
 
 pub returns : goal.returns

@@ -1,12 +1,7 @@
-use mathlib.Core.Path.{◌≡◌, sym}
-use mathlib.Core.Bool.{false≢true, true}
-use Prim.Native.Nat.{◌+◌, ◌-◌}
-use native.Mathlib.Omega.{arith}
-use borrow.Author.Rules.{rules}
+use mathlib.Core.Bool.{true}
 use Rattle.cells.specs.Cells.{row_inside}
 use Rattle.words.specs.Sheets.{SheetWords}
-use Rattle.words.proofs.Cuts.{Cutting, cutting_end, cutting_words, cutting_more, cutting_start}
-use Rattle.words.proofs.Places.{eight}
+use Rattle.words.proofs.Cuts.{Cutting}
 use Rattle.words.proofs.cut.cut_inside.Given as goal
 
 abbrev pub invariant-loop-p : goal.invariant-loop-p

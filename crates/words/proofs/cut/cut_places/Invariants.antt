@@ -1,13 +1,7 @@
-use mathlib.Core.Path.{◌∙◌, ◌≡◌, refl}
+use mathlib.Core.Path.{◌≡◌}
 use mathlib.Core.Bool.{false}
 use Prim.Native.Nat.{◌-◌, ◌≤◌}
-use native.Mathlib.Omega.{arith}
-use borrow.Author.Rules.{rules}
-use Rattle.model.proofs.Tests.{or_false_l, or_false_r}
-use Rattle.heads.specs.Heads.{width_of}
 use Rattle.words.specs.Sheets.{CutBy, SheetWords, passes_below}
-use Rattle.words.proofs.Cuts.{cut_words, cut_more, cut_none}
-use Rattle.words.proofs.Places.{eight, head_there}
 use Rattle.words.proofs.cut.cut_places.Given as goal
 
 abbrev pub invariant-loop-j : goal.invariant-loop-j

@@ -7,7 +7,7 @@ use Rattle.words.proofs.Places.{eight}
 use Rattle.words.proofs.cut.cut_word_inside.Goals as goal
 
 pub word_number-w-requires : goal.word_number-w-requires
-word_number-w-requires c =     let l : c.args.p < 8 = omega (arith, c.requires.1.indexed.few, c.requires.2) in
+word_number-w-requires c = let l : c.args.p < 8 = omega (arith, c.requires.1.indexed.few, c.requires.2) in
     (eight c.requires.0, l, c.requires.1.indexed.each _ l)
 
 pub overflow_mul-word : goal.overflow_mul-word
@@ -23,16 +23,16 @@ pub bounds-valid-s : goal.bounds-valid-s
 bounds-valid-s c = omega (arith, eight c.requires.0, c.word_number-w.ensures.1)
 
 pub kept_inside-keep-requires : goal.kept_inside-keep-requires
-kept_inside-keep-requires c =     let p = c.requires in
+kept_inside-keep-requires c = let p = c.requires in
     let w = c.word_number-w.ensures in
     let r = word_at p.0 p.1 p.2 w.0 w.1 in
     let z = r.1 in
     (w.1, r.0, search (rules, z))
 
 pub keep_word-requires : goal.keep_word-requires
-keep_word-requires c =     let p = c.requires in
+keep_word-requires c = let p = c.requires in
     let w = c.word_number-w.ensures in
     (eight p.0, w.1, p.1.indexed, p.1.sized, p.2, w.0, refl)
 
 pub returns : goal.returns
-returns c =     c.keep_word.ensures.0 _ (word_inside c.kept_inside-keep.ensures)
+returns c = c.keep_word.ensures.0 _ (word_inside c.kept_inside-keep.ensures)

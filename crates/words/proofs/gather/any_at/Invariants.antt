@@ -1,10 +1,5 @@
-use mathlib.Core.Path.{refl}
-use Prim.Native.Nat.{◌-◌, ◌<◌, ◌≤◌}
-use native.Mathlib.Omega.{arith}
-use borrow.Author.Rules.{rules}
-use Rattle.words.proofs.Cuts.{word_at}
-use Rattle.words.proofs.Gathers.{NoAny, any_found, any_none, no_any_more, no_any_start}
-use Rattle.words.proofs.Places.{eight}
+use Prim.Native.Nat.{◌-◌, ◌≤◌}
+use Rattle.words.proofs.Gathers.{NoAny}
 use Rattle.words.proofs.gather.any_at.Given as goal
 
 abbrev pub invariant-loop-p : goal.invariant-loop-p

@@ -1,4 +1,3 @@
-use borrow.Author.Rules.{rules}
 use Rattle.words.proofs.Gathers.{covered_sets}
 use Rattle.words.proofs.gather.covered.Goals as goal
 

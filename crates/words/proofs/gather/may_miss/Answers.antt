@@ -1,7 +1,6 @@
 use mathlib.Core.Logic.{inl, inr}
 use mathlib.Core.Path.{refl}
 use native.Mathlib.Omega.{arith}
-use borrow.Author.Rules.{rules}
 use Rattle.words.proofs.Cuts.{bit_not}
 use Rattle.words.proofs.Gathers.{nothing-outside}
 use Rattle.words.proofs.gather.may_miss.Goals as goal

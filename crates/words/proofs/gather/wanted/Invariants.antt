@@ -1,11 +1,5 @@
-use mathlib.Core.Path.{◌≡◌}
-use Prim.Native.Nat.{◌-◌, ◌<◌, ◌≤◌}
-use native.Mathlib.Omega.{arith}
-use borrow.Author.Rules.{rules}
-use Rattle.heads.specs.Heads.{width_of}
+use Prim.Native.Nat.{◌-◌, ◌≤◌}
 use Rattle.words.specs.Sheets.{Wanted}
-use Rattle.words.proofs.Places.{column_below, eight, head_there, width_most}
-use Rattle.words.proofs.Gathers.{wanted_more, wanted_none}
 use Rattle.words.proofs.gather.wanted.Given as goal
 
 abbrev pub invariant-loop-j : goal.invariant-loop-j

@@ -1,8 +1,5 @@
 use mathlib.Core.Path.{◌≡◌}
-use Prim.Native.Nat.{◌-◌, ◌≤◌}
 use native.Mathlib.Omega.{arith}
-use borrow.Author.Rules.{rules}
-use Rattle.words.specs.Sheets.{Widened}
 use Rattle.words.proofs.Gathers.{widened_end, widened_start}
 use Rattle.words.proofs.gather.widen_places.Goals as goal
 
@@ -10,5 +7,5 @@ pub loop-j-init : goal.loop-j-init
 loop-j-init c = (widened_start c.requires.0 c.requires.1 c.requires.4, omega arith)
 
 pub returns : goal.returns
-returns c =     let e : c.loop-j.j ≡ 4 = omega (arith, c.loop-j-test.false, c.loop-j.invariant.1) in
+returns c = let e : c.loop-j.j ≡ 4 = omega (arith, c.loop-j-test.false, c.loop-j.invariant.1) in
     widened_end c.requires.0 c.requires.1 (rw e at c.loop-j.invariant.0)

@@ -1,9 +1,5 @@
-use mathlib.Core.Path.{◌≡◌}
 use Prim.Native.Nat.{◌-◌, ◌≤◌}
-use native.Mathlib.Omega.{arith}
-use borrow.Author.Rules.{rules}
 use Rattle.words.specs.Sheets.{Widened}
-use Rattle.words.proofs.Gathers.{widened_end, widened_start}
 use Rattle.words.proofs.gather.widen_places.Given as goal
 
 abbrev pub invariant-loop-j : goal.invariant-loop-j

@@ -1,5 +1,4 @@
 use mathlib.Core.Path.{refl}
-use borrow.Author.Rules.{rules}
 use Rattle.words.specs.Sheets.{swapped}
 use Rattle.words.proofs.index.drop_word.Goals as goal
 

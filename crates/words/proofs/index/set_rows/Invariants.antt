@@ -1,9 +1,6 @@
-use mathlib.Core.Path.{◌≡◌, refl}
-use Prim.Native.Nat.{◌+◌, ◌-◌, ◌<◌, ◌≤◌}
-use native.Mathlib.Omega.{arith}
-use borrow.Author.Rules.{rules}
+use mathlib.Core.Path.{◌≡◌}
+use Prim.Native.Nat.{◌-◌, ◌≤◌}
 use Rattle.words.specs.Sheets.{rows_to}
-use Rattle.words.proofs.Indexes.{rows_most, rows_next}
 use Rattle.words.proofs.index.set_rows.Given as goal
 
 abbrev pub invariant-loop-p : goal.invariant-loop-p

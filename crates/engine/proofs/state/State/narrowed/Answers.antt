@@ -1,5 +1,6 @@
--- Each fact that the prover needs of `narrowed`, by its name, but for one that a search finds. `c` is the place in the code where it is needed, `c.before` the place before it,
--- and `.pre` what the function requires. mul-d and array-read-d: `dom[c]` lies in its array. returns, returns-2, returns-3: the three ways out.
+-- Each goal of `narrowed`, by its name, but for those that a search finds. `c` is what is known at that place in the code: `c.args` the arguments, `c.requires` what the
+-- function requires, then each call and test before it. offset_bounds-dom-c and bounds-dom-c: `dom[c]` lies in its array. returns-then-e-d, returns-then-e-eq0, returns: the
+-- three ways out.
 use Prim.Native.Nat.{◌<◌}
 use borrow.Author.Rules.{rules}
 use Rattle.model.proofs.Tests.{positive}
@@ -18,15 +19,15 @@ bounds-dom-c c =
     sixteen
 
 pub returns-then-e-d : goal.returns-then-e-d
-returns-then-e-d c =     let p = c.requires in
+returns-then-e-d c = let p = c.requires in
     state_same _ p.0.accepted _ _ p.1 _ c.if-e-d.true
 
 pub returns-then-e-eq0 : goal.returns-then-e-eq0
-returns-then-e-eq0 c =     let p = c.requires in
+returns-then-e-eq0 c = let p = c.requires in
     state_emptied _ p.0.accepted _ _ p.1 _ _ c.failed.ensures c.if-e-eq0.true
 
 pub propagated-requires : goal.propagated-requires
-propagated-requires c =     let p = c.requires in
+propagated-requires c = let p = c.requires in
     (p.0, p.1, p.2, positive _ c.if-e-eq0.false)
 
 pub returns : goal.returns

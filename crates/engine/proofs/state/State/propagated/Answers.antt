@@ -1,5 +1,5 @@
--- As in the proof of `narrowed`. The first six facts: `dom[c]` lies in its array, `1u32 << c` in 32 bits. Then what `propagate` requires
--- (narrow_ready), and what the state is when it is over (state_propagated).
+-- As in the proof of `narrowed`. The first six goals: `dom[c]` lies in its array, `1u32 << c` in 32 bits. Then what `propagate` requires
+-- (`narrow_ready`), and what the state is when it is over (`state_propagated`).
 use Prim.Native.Nat.{◌<◌}
 use native.Mathlib.Omega.{arith}
 use borrow.Author.Rules.{rules}
@@ -38,10 +38,10 @@ overflow_shl-column c =
     let l = sixteen in omega (arith, l)
 
 pub propagate-requires : goal.propagate-requires
-propagate-requires c =     let p = c.requires in
+propagate-requires c = let p = c.requires in
     let is = p.2.is in
     (p.0, narrow_ready _ p.0.accepted p.2.trail is.holds is.store is.sized _ _ p.1 (λ e. omega (arith, p.3, e)) p.0 c.waiting_for.ensures)
 
 pub returns : goal.returns
-returns c =     let p = c.requires in
+returns c = let p = c.requires in
     state_propagated _ p.0.accepted _ _ p.1 _ _ c.propagate.ensures

@@ -41,17 +41,17 @@ pub record RightBook (b : List ℕ) : Type 0 where
   pub order : NoneIn (falls_in b) 0 (sheets_of b)
 
 module _ (b : List ℕ) (a : Accepted b) where
-  no-fault : first_fault b ≡ clean
-  no-fault = go (first_fault b) (later_rows b (inl a))
+  no_fault : first_fault b ≡ clean
+  no_fault = go (first_fault b) (later_rows b (inl a))
     where
       go : (f : RowFault) → check_result b ≡ number_of (row_verdict b f) → f ≡ clean
       go clean e = refl
       go (fault offset too_large) e = absurd (omega arith)
       go (fault offset not_zero) e = absurd (omega arith)
 
-  no-fall : NoneIn (falls_in b) 0 (sheets_of b)
+  no_fall : NoneIn (falls_in b) 0 (sheets_of b)
   unfolding order_verdict first_fall
-  no-fall = lowest_none (sheets_of b) (λ l. at (lt-ltb (first_fall b) (sheets_of b) l) (later_rows b (inl a) ∙ ap (λ f. number_of (row_verdict b f)) no-fault))
+  no_fall = lowest_none (sheets_of b) (λ l. at (lt-ltb (first_fall b) (sheets_of b) l) (later_rows b (inl a) ∙ ap (λ f. number_of (row_verdict b f)) no_fault))
     where
       at : ltb (first_fall b) (sheets_of b) ≡ true → check_result b ≡ number_of (order_verdict b) → ⊥
       at q e = let z : check_result b ≡ refused 7 (fall_place b (first_fall b) / 4) = e ∙ rw q in omega arith
@@ -62,26 +62,26 @@ module _ (b : List ℕ) (a : Accepted b) where
     checks = later_checks b (inl a);
     head = later_head b (inl a);
     blocks = later_blocks b (inl a);
-    rows = no-fault;
-    order = no-fall;
+    rows = no_fault;
+    order = no_fall;
   }
 
 -- ---- so every row value is below its column's V, or 255
 module _ (b : List ℕ) (h : RightBook b) where
-  no-wrong-sheet : NoneIn (wrong_sheet b) 0 (sheets_of b)
-  no-wrong-sheet = clean_none b h.rows
+  no_wrong_sheet : NoneIn (wrong_sheet b) 0 (sheets_of b)
+  no_wrong_sheet = clean_none b h.rows
 
   module _ (s : ℕ) (used : s < sheets_of b) where
-    no-wrong-byte : (q i : ℕ) → q < blocks_of b s → i < 508 → wrong_byte b s q i ≡ false
+    no_wrong_byte : (q i : ℕ) → q < blocks_of b s → i < 508 → wrong_byte b s q i ≡ false
     unfolding wrong_sheet wrong_block
-    no-wrong-byte q i p l =
-        (any_none ((any_none (no-wrong-sheet.at s (omega arith) used)).at q (omega arith) p)).at i (omega arith) l
+    no_wrong_byte q i p l =
+        (any_none ((any_none (no_wrong_sheet.at s (omega arith) used)).at q (omega arith) p)).at i (omega arith) l
 
     -- byte j of row r, which is used, is not over its bound
-    not-over : (r j : ℕ) → r < rows_of b s → j < 4 → over_at (ltb j (any_places b s)) (place_bound b s j) (byte_at b (row_place b s r + j)) ≡ false
+    not_over : (r j : ℕ) → r < rows_of b s → j < 4 → over_at (ltb j (any_places b s)) (place_bound b s j) (byte_at b (row_place b s r + j)) ≡ false
     unfolding wrong_cell blocks_of
-    not-over r j p l =
-        sym (wrong_used b s r j _ p) ∙ sym (row_byte b s r j l) ∙ no-wrong-byte (r / 127) (4 * (r % 127) + j) (omega arith) (omega arith)
+    not_over r j p l =
+        sym (wrong_used b s r j _ p) ∙ sym (row_byte b s r j l) ∙ no_wrong_byte (r / 127) (4 * (r % 127) + j) (omega arith) (omega arith)
 
     -- one of the width's is 255, where the sheet allows its rows, or below its column's V
     pub value_cell : (r j : ℕ) → r < rows_of b s → j < width_of b s
@@ -90,7 +90,7 @@ module _ (b : List ℕ) (h : RightBook b) where
     value_cell r j p l = go (either (forbids_of b s)) (either (is_any (byte_at b (row_place b s r + j))))
       where
         over : over_at (ltb j (any_places b s)) (place_bound b s j) (byte_at b (row_place b s r + j)) ≡ false
-        over = not-over r j p (omega (arith, (width_range b h.head s used).1))
+        over = not_over r j p (omega (arith, (width_range b h.head s used).1))
 
         go : (forbids_of b s ≡ true) ⊎ (forbids_of b s ≡ false) → (is_any (byte_at b (row_place b s r + j)) ≡ true) ⊎ (is_any (byte_at b (row_place b s r + j)) ≡ false)
             → ((forbids_of b s ≡ false) × (is_any (byte_at b (row_place b s r + j)) ≡ true)) ⊎ (byte_at b (row_place b s r + j) < values_of b (column_of b s j))
@@ -103,20 +103,20 @@ module _ (b : List ℕ) (h : RightBook b) where
     unfolding place_bound any_places
     filler_zero r j p l q = go (either (forbids_of b s))
       where
-        zero-there : leb 1 (byte_at b (row_place b s r + j)) ≡ false → byte_at b (row_place b s r + j) ≡ 0
-        zero-there t = let e = leb-false 1 (byte_at b (row_place b s r + j)) t in omega arith
+        zero_there : leb 1 (byte_at b (row_place b s r + j)) ≡ false → byte_at b (row_place b s r + j) ≡ 0
+        zero_there t = let e = leb-false 1 (byte_at b (row_place b s r + j)) t in omega arith
 
         go : (forbids_of b s ≡ true) ⊎ (forbids_of b s ≡ false) → byte_at b (row_place b s r + j) ≡ 0
-        go (inl f) = zero-there (rw (f, le-ltb j (width_of b s) l, le-ltb j 0 (omega arith), and_true) at (not-over r j p q))
-        go (inr f) = zero-there (rw (f, le-ltb j (width_of b s) l, and_true) at (not-over r j p q))
+        go (inl f) = zero_there (rw (f, le-ltb j (width_of b s) l, le-ltb j 0 (omega arith), and_true) at (not_over r j p q))
+        go (inr f) = zero_there (rw (f, le-ltb j (width_of b s) l, and_true) at (not_over r j p q))
 
     -- a row that is used is there
     pub row_inside : (r : ℕ) → r < rows_of b s → row_place b s r + 3 < length b
     unfolding row_place blocks_of blocks_needed
     row_inside r p = omega (arith, right_length b h.length_right, h.blocks, first_block_later b s (sheets_of b) used)
 
-    row-bytes : (r j : ℕ) → r < rows_of b s → j < 4 → byte_at b (row_place b s r + j) < 256
-    row-bytes r j p l = go (below j (width_of b s))
+    row_bytes : (r j : ℕ) → r < rows_of b s → j < 4 → byte_at b (row_place b s r + j) < 256
+    row_bytes r j p l = go (below j (width_of b s))
       where
         value : j < width_of b s
             → ((forbids_of b s ≡ false) × (is_any (byte_at b (row_place b s r + j)) ≡ true)) ⊎ (byte_at b (row_place b s r + j) < values_of b (column_of b s j))
@@ -134,7 +134,7 @@ module _ (b : List ℕ) (h : RightBook b) where
     unfolding blocks_of blocks_needed
     any_shows q i j p l k e =
         any_joined b s q i j (omega (arith, right_length b h.length_right, h.blocks, first_block_later b s (sheets_of b) used)) p k
-        (λ m n. row-bytes (127 * q + i) m l n) e
+        (λ m n. row_bytes (127 * q + i) m l n) e
 
 -- ---- the decoded book
 -- an element of a table is one of its function's values
@@ -163,12 +163,12 @@ module _ (b : List ℕ) (h : RightBook b) (s : ℕ) (used : s < sheets_of b) whe
       let none : falls_in b s ≡ false = h.order.at s (omega arith) used in
       let up = rises_at b s r ((any_none (rw f at none)).at (suc r) (omega arith) l) in
       let d = string_lower (λ j. byte_at b (row_place b s r + j)) (λ j. byte_at b (row_place b s (suc r) + j))
-      (λ j q. row-bytes b h s used r j (omega arith) q) (λ j q. row-bytes b h s used (suc r) j l q)
-      (rw (zero-add (row_place b s r), zero-add (row_place b s (suc r))) up) in
+      (λ j q. row_bytes b h s used r j (omega arith) q) (λ j q. row_bytes b h s used (suc r) j l q)
+      (rw (zero_add (row_place b s r), zero_add (row_place b s (suc r))) up) in
       lower d (below d.0 (width_of b s))
     where
-      zero-add : (n : ℕ) → n + 0 ≡ n
-      zero-add n = omega arith
+      zero_add : (n : ℕ) → n + 0 ≡ n
+      zero_add n = omega arith
 
       at : (q j : ℕ) → j < width_of b s → get_or (tab (width_of b s) (λ j. byte_at b (row_place b s q + j))) j 0 ≡ byte_at b (row_place b s q + j)
       at q j k = get_or-tab 0 (width_of b s) (λ j. byte_at b (row_place b s q + j)) j k
@@ -184,9 +184,9 @@ module _ (b : List ℕ) (h : RightBook b) (s : ℕ) (used : s < sheets_of b) whe
           }
       lower d (inr k) = absurd (omega (arith, d.2, filler_zero b h s used (suc r) d.0 l k d.1))
 
-  sheet-formed : WellFormedSheet (book_of b).counts (sheet_of b s)
+  sheet_formed : WellFormedSheet (book_of b).counts (sheet_of b s)
   unfolding book_of sheet_of row_of
-  sheet-formed = record {
+  sheet_formed = record {
     some_column = omega (arith, length-tab (width_of b s) (column_of b s), (width_range b h.head s used).0);
     few_columns = omega (arith, length-tab (width_of b s) (column_of b s), (width_range b h.head s used).1);
     rising = λ i j l p.
@@ -227,7 +227,7 @@ right_formed b h = record {
       let q : c < columns_of b = omega (arith, length-tab (columns_of b) (values_of b)) in
       rw (get_or-tab 0 (columns_of b) (values_of b) c q) (values_range b h.head c q).1;
   sheet = λ s m.
-      let r = tab_mem (sheets_of b) (sheet_of b) s m in rw r.2 (sheet-formed b h r.0 r.1);
+      let r = tab_mem (sheets_of b) (sheet_of b) s m in rw r.2 (sheet_formed b h r.0 r.1);
 }
 
 -- the statement of specs/Decoding.antt

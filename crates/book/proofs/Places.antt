@@ -65,14 +65,14 @@ module _ (b : List ℕ) (s q i : ℕ) (f : FirstAt b s q i) where
   byte : i < 508
   byte = f.byte
 
-  sheet-there : place_sheet b place ≡ s
-  sheet-there = sheet_at_is b s q i f.sheet f.block byte
+  sheet_there : place_sheet b place ≡ s
+  sheet_there = sheet_at_is b s q i f.sheet f.block byte
 
   row_there : place_row b place ≡ row
   row_there = row_at b s q i f.sheet f.block byte
 
-  stands-there : row_place b s row ≡ 4 * place
-  stands-there = stands_at b s q i f.sheet f.block byte
+  stands_there : row_place b s row ≡ 4 * place
+  stands_there = stands_at b s q i f.sheet f.block byte
 
   -- byte j of its row, and byte 4 (i / 4) + j of its block
   cell : (j : ℕ) → j < 4 → wrong_cell b s row j ≡ wrong_byte b s q (4 * (i / 4) + j)
@@ -81,28 +81,28 @@ module _ (b : List ℕ) (s q i : ℕ) (f : FirstAt b s q i) where
       let er : row % 127 ≡ i / 4 = omega (arith, byte) in
       sym (rw (eq, er) at (row_byte b s row j l))
 
-  wrong-there : wrong_cell b s row (i % 4) ≡ true
-  wrong-there = let e : 4 * (i / 4) + i % 4 ≡ i = omega arith in cell (i % 4) (omega arith) ∙ ap (wrong_byte b s q) e ∙ f.wrong
+  wrong_there : wrong_cell b s row (i % 4) ≡ true
+  wrong_there = let e : 4 * (i / 4) + i % 4 ≡ i = omega arith in cell (i % 4) (omega arith) ∙ ap (wrong_byte b s q) e ∙ f.wrong
 
-  byte-there : place_byte b place ≡ i % 4
+  byte_there : place_byte b place ≡ i % 4
   unfolding place_byte
-  byte-there =
-      rw (sheet-there, row_there)
+  byte_there =
+      rw (sheet_there, row_there)
       (first_in_lowest (first_in_found (omega arith) (omega arith)
       (record { at = λ j l p. cell j (omega arith) ∙ f.bytes_before.at _ (omega arith) (omega arith) })
-      wrong-there))
+      wrong_there))
 
   -- ---- nothing before it
   -- in another sheet
-  sheet-right : (t r j : ℕ) → t < s → r < 127 * blocks_of b t → j < 4 → wrong_cell b t r j ≡ false
+  sheet_right : (t r j : ℕ) → t < s → r < 127 * blocks_of b t → j < 4 → wrong_cell b t r j ≡ false
   unfolding wrong_sheet wrong_block
-  sheet-right t r j l p m =
+  sheet_right t r j l p m =
       sym (row_byte b t r j m) ∙ (any_none ((any_none (f.sheets_before.at t (omega arith) l)).at (r / 127) (omega arith) (omega arith))).at _ (omega arith) (omega arith)
 
   -- in its own
-  row-right : (r j : ℕ) → r < 127 * blocks_of b s → j < 4 → row_place b s r + j < 4 * place + i % 4 → wrong_cell b s r j ≡ false
+  row_right : (r j : ℕ) → r < 127 * blocks_of b s → j < 4 → row_place b s r + j < 4 * place + i % 4 → wrong_cell b s r j ≡ false
   unfolding wrong_block row_place
-  row-right r j p m l = sym (row_byte b s r j m) ∙ go (below (r / 127) q)
+  row_right r j p m l = sym (row_byte b s r j m) ∙ go (below (r / 127) q)
     where
       go : (r / 127 < q) ⊎ (q ≤ r / 127) → wrong_byte b s (r / 127) (4 * (r % 127) + j) ≡ false
       go (inl k) = (any_none (f.blocks_before.at (r / 127) (omega arith) k)).at _ (omega arith) (omega arith)
@@ -110,31 +110,31 @@ module _ (b : List ℕ) (s q i : ℕ) (f : FirstAt b s q i) where
           let e : r / 127 ≡ q = omega (arith, byte) in
           ap (λ (n : ℕ). wrong_byte b s n (4 * (r % 127) + j)) e ∙ f.bytes_before.at _ (omega arith) (omega (arith, byte))
 
-  cell-right : (t r j : ℕ) → t < sheets_of b → r < 127 * blocks_of b t → j < 4 → row_place b t r + j < 4 * place + i % 4 → wrong_cell b t r j ≡ false
+  cell_right : (t r j : ℕ) → t < sheets_of b → r < 127 * blocks_of b t → j < 4 → row_place b t r + j < 4 * place + i % 4 → wrong_cell b t r j ≡ false
   unfolding row_place
-  cell-right t r j n p m l = go (below t s) (below s t)
+  cell_right t r j n p m l = go (below t s) (below s t)
     where
       go : (t < s) ⊎ (s ≤ t) → (s < t) ⊎ (t ≤ s) → wrong_cell b t r j ≡ false
-      go (inl k) x = sheet-right t r j k p m
+      go (inl k) x = sheet_right t r j k p m
       go (inr k) (inl h) = absurd (omega (arith, first_block_later b s t h, f.block, byte))
       go (inr k) (inr h) = let e : t ≡ s = omega arith in
-          rw e (row-right r j (rw e at p) m (rw e at l))
+          rw e (row_right r j (rw e at p) m (rw e at l))
 
   -- ---- so the place tells
   pub at_first_fault : FirstFault b place
   at_first_fault = record {
-    sheet = rw sheet-there f.sheet;
-    row = rw (row_there, sheet-there) (omega (arith, f.block, byte));
-    stands = rw (sheet-there, row_there) stands-there;
-    byte = rw byte-there (omega arith);
-    wrong = rw (sheet-there, row_there, byte-there) wrong-there;
-    first = rw byte-there cell-right;
+    sheet = rw sheet_there f.sheet;
+    row = rw (row_there, sheet_there) (omega (arith, f.block, byte));
+    stands = rw (sheet_there, row_there) stands_there;
+    byte = rw byte_there (omega arith);
+    wrong = rw (sheet_there, row_there, byte_there) wrong_there;
+    first = rw byte_there cell_right;
   }
 
   -- what stands there is no lower than its bound, and no 255 in place of a value
   byte_wrong : is_wrong b s row (i % 4) (byte_at b (4 * place + i % 4)) ≡ true
   unfolding wrong_cell
-  byte_wrong = rw stands-there at wrong-there
+  byte_wrong = rw stands_there at wrong_there
 
   found : bound_of b s row (i % 4) ≤ byte_at b (4 * place + i % 4)
   unfolding is_wrong
@@ -148,15 +148,15 @@ module _ (b : List ℕ) (s q i : ℕ) (f : FirstAt b s q i) where
   unfolding is_value bound_of place_column
   large_value e = record {
     fault = at_first_fault;
-    used = rw (row_there, sheet-there) (ltb-true _ _ (and_l (ltb row (rows_of b s)) _ e));
-    value = rw (byte-there, sheet-there) (ltb-true _ _ (and_r (ltb row (rows_of b s)) _ e));
-    large = rw (sheet-there, byte-there) (rw e at found);
-    not_any = rw (byte-there, sheet-there) (found_plain e);
+    used = rw (row_there, sheet_there) (ltb-true _ _ (and_l (ltb row (rows_of b s)) _ e));
+    value = rw (byte_there, sheet_there) (ltb-true _ _ (and_r (ltb row (rows_of b s)) _ e));
+    large = rw (sheet_there, byte_there) (rw e at found);
+    not_any = rw (byte_there, sheet_there) (found_plain e);
   }
 
   pub wrong_filler : is_value b s row (i % 4) ≡ false → WrongFiller b place
   unfolding is_value bound_of
-  wrong_filler e = record { fault = at_first_fault; filler = rw (row_there, sheet-there, byte-there) (go (below row (rows_of b s))); not_zero = rw byte-there (rw e at found) }
+  wrong_filler e = record { fault = at_first_fault; filler = rw (row_there, sheet_there, byte_there) (go (below row (rows_of b s))); not_zero = rw byte_there (rw e at found) }
     where
       go : (row < rows_of b s) ⊎ (rows_of b s ≤ row) → (rows_of b s ≤ row) ⊎ (width_of b s ≤ i % 4)
       go (inl p) = inr (ltb-false _ _ (rw (lt-ltb row (rows_of b s) p) at e))
@@ -196,9 +196,9 @@ module _ (b : List ℕ) (from : 5 ≤ check_result b / 65536) where
     abbrev r₇ : ℕ
     r₇ = lowest (rows_of b s₇) (falls b s₇)
 
-    right-cell : (s r j : ℕ) → s < sheets_of b → r < 127 * blocks_of b s → j < 4 → wrong_cell b s r j ≡ false
+    right_cell : (s r j : ℕ) → s < sheets_of b → r < 127 * blocks_of b s → j < 4 → wrong_cell b s r j ≡ false
     unfolding wrong_sheet wrong_block
-    right-cell s r j p l m =
+    right_cell s r j p l m =
         sym (row_byte b s r j m) ∙ (any_none ((any_none (clear.at s (omega arith) p)).at (r / 127) (omega arith) (omega arith))).at _ (omega arith) (omega arith)
 
     numbered : check_result b ≡ number_of (order_verdict b)
@@ -208,9 +208,9 @@ module _ (b : List ℕ) (from : 5 ≤ check_result b / 65536) where
     unfolding first_fall
     falling l = (lowest_first_in {f = falls_in b} (sheets_of b)).passes l
 
-    row-falls : s₇ < sheets_of b → (r₇ < rows_of b s₇) × (falls b s₇ r₇ ≡ true)
+    row_falls : s₇ < sheets_of b → (r₇ < rows_of b s₇) × (falls b s₇ r₇ ≡ true)
     unfolding falls_in
-    row-falls l =
+    row_falls l =
         let x = any_below_e (rows_of b s₇) (falls b s₇) (and_r (forbids_of b s₇) _ (falling l)) in
         let f = lowest_first_in {f = falls b s₇} (rows_of b s₇) in
         let m : r₇ < rows_of b s₇ = omega (arith, first_in_most x.0 f (omega arith) x.2, x.1) in
@@ -222,7 +222,7 @@ module _ (b : List ℕ) (from : 5 ≤ check_result b / 65536) where
       where
         go : (s < s₇) ⊎ (s₇ ≤ s) → (s₇ < s) ⊎ (s ≤ s₇) → falls b s r ≡ false
         go (inl k) x = (any_none (rw g at ((lowest_first_in {f = falls_in b} (sheets_of b)).none.at s (omega arith) k))).at r (omega arith) l
-        go (inr k) (inl h) = absurd (omega (arith, first_block_later b s₇ s h, (row-falls n).0))
+        go (inr k) (inl h) = absurd (omega (arith, first_block_later b s₇ s h, (row_falls n).0))
         go (inr k) (inr h) =
             let e : s ≡ s₇ = omega arith in
             rw e ((lowest_first_in {f = falls b s₇} (rows_of b s₇)).none.at r (omega arith) (before (rw e at m)))
@@ -230,10 +230,10 @@ module _ (b : List ℕ) (from : 5 ≤ check_result b / 65536) where
             before : row_place b s₇ r < row_place b s₇ r₇ → r < r₇
             before z = omega arith
 
-    order-told : s₇ < sheets_of b → Told
+    order_told : s₇ < sheets_of b → Told
     unfolding order_verdict fall_place blocks_of blocks_needed
-    order-told l =
-        let u = row-falls l in
+    order_told l =
+        let u = row_falls l in
         let q = r₇ / 127 in
         let i = 4 * (r₇ % 127) in
         let in-sheet : q < blocks_of b s₇ = omega (arith, u.0) in
@@ -250,24 +250,24 @@ module _ (b : List ℕ) (from : 5 ≤ check_result b / 65536) where
           omega arith,
           rw k (record {
             sheet = rw es l;
-            forbidden = rw es (forbids-there l);
+            forbidden = rw es (forbids_there l);
             row = rw (es, ew) u.0;
             stands = rw (es, ew) same;
             falling = rw (es, ew) u.1;
             first = λ s r p g h z. row_before s r p g h (omega (arith, same)) l;
-            right = right-cell;
+            right = right_cell;
           }),
         ))
       where
-        forbids-there : s₇ < sheets_of b → forbids_of b s₇ ≡ true
-        forbids-there l = forbids_in b s₇ (falling l)
+        forbids_there : s₇ < sheets_of b → forbids_of b s₇ ≡ true
+        forbids_there l = forbids_in b s₇ (falling l)
 
-    order-or-none : Told
+    order_or_none : Told
     unfolding order_verdict
-    order-or-none = go (below s₇ (sheets_of b))
+    order_or_none = go (below s₇ (sheets_of b))
       where
         go : (s₇ < sheets_of b) ⊎ (sheets_of b ≤ s₇) → Told
-        go (inl l) = order-told l
+        go (inl l) = order_told l
         go (inr l) =
             let e : check_result b ≡ columns_of b * 16 + sheets_of b = numbered ∙ rw (le-ltb (first_fall b) (sheets_of b) l) in
             absurd (omega (arith, (columns_range b (later_head b later)).1, sheets_most b (later_head b later)))
@@ -282,7 +282,7 @@ module _ (b : List ℕ) (from : 5 ≤ check_result b / 65536) where
       at s q i f e (inr h) = let k = split s q i f 6 (e ∙ number_filler b s q i h) in inr (inl (k.0, rw k.1 (wrong_filler b s q i f h)))
 
       go : NoneIn (wrong_sheet b) 0 (sheets_of b) ⊎ Faulty b → Told
-      go (inl h) = order-or-none h
+      go (inl h) = order_or_none h
       go (inr f) = at _ _ _ f.first (later_rows b later ∙ ap (λ f. number_of (row_verdict b f)) f.same) (either _)
 
 -- the statement of specs/Places.antt

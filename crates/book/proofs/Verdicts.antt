@@ -59,12 +59,12 @@ module _ (b : List ℕ) where
               go (fault offset kind) k = refl
 
           module _ (h5 : first_fault b ≡ clean) where
-            result-clean : check_result b ≡ number_of (order_verdict b)
-            result-clean = result_rows ∙ rw h5
+            result_clean : check_result b ≡ number_of (order_verdict b)
+            result_clean = result_rows ∙ rw h5
 
             pub result_order : (fall_number b ≡ 0 → ⊥) → check_result b ≡ fall_number b
             unfolding order_verdict fall_number
-            result_order h = result-clean ∙ go (either (ltb (first_fall b) (sheets_of b)))
+            result_order h = result_clean ∙ go (either (ltb (first_fall b) (sheets_of b)))
               where
                 go : (ltb (first_fall b) (sheets_of b) ≡ true) ⊎ (ltb (first_fall b) (sheets_of b) ≡ false) → number_of (order_verdict b) ≡ fall_number b
                 go (inl e) = rw e
@@ -72,12 +72,12 @@ module _ (b : List ℕ) where
 
             pub result_accepted : fall_number b ≡ 0 → check_result b ≡ columns_of b * 16 + sheets_of b
             unfolding order_verdict
-            result_accepted h = result-clean ∙ rw (none_fall b h)
+            result_accepted h = result_clean ∙ rw (none_fall b h)
 
 -- ---- a number that is none of refusals 1 to 4: all but the rows is right, and it goes by them
 module _ (b : List ℕ) (later : (check_result b < 65536) ⊎ (5 * 65536 ≤ check_result b)) where
-  not-refused : (n place : ℕ) → 1 ≤ n → n ≤ 4 → place < 65536 → check_result b ≡ refused n place → ⊥
-  not-refused n place p q r e = go later
+  not_refused : (n place : ℕ) → 1 ≤ n → n ≤ 4 → place < 65536 → check_result b ≡ refused n place → ⊥
+  not_refused n place p q r e = go later
     where
       go : (check_result b < 65536) ⊎ (5 * 65536 ≤ check_result b) → ⊥
       go (inl l) = omega arith
@@ -87,16 +87,16 @@ module _ (b : List ℕ) (later : (check_result b < 65536) ⊎ (5 * 65536 ≤ che
   later_length = go (either (wrong_length b))
     where
       go : (wrong_length b ≡ true) ⊎ (wrong_length b ≡ false) → wrong_length b ≡ false
-      go (inl e) = absurd (not-refused 1 0 (omega arith) (omega arith) (omega arith) (result_length b e))
+      go (inl e) = absurd (not_refused 1 0 (omega arith) (omega arith) (omega arith) (result_length b e))
       go (inr e) = e
 
   pub later_checks : RightChecks b
   later_checks =
       lowest_none (block_count b)
-      (λ l. not-refused 2 _ (omega arith) (omega arith) (omega (arith, (right_length b later_length).2)) (result_check b later_length _ (lowest_first_in (block_count b)) l))
+      (λ l. not_refused 2 _ (omega arith) (omega arith) (omega (arith, (right_length b later_length).2)) (result_check b later_length _ (lowest_first_in (block_count b)) l))
 
   pub later_head : RightHead b
-  later_head = lowest_none 508 (λ l. not-refused 3 _ (omega arith) (omega arith) (omega arith) (result_field b later_length later_checks _ (lowest_first_in 508) l))
+  later_head = lowest_none 508 (λ l. not_refused 3 _ (omega arith) (omega arith) (omega arith) (result_field b later_length later_checks _ (lowest_first_in 508) l))
 
   pub later_blocks : blocks_needed b ≡ block_count b
   later_blocks = go (either (eqb (blocks_needed b) (block_count b)))
@@ -104,7 +104,7 @@ module _ (b : List ℕ) (later : (check_result b < 65536) ⊎ (5 * 65536 ≤ che
       go : (eqb (blocks_needed b) (block_count b) ≡ true) ⊎ (eqb (blocks_needed b) (block_count b) ≡ false) → blocks_needed b ≡ block_count b
       go (inl e) = eqb-true (blocks_needed b) (block_count b) e
       go (inr e) =
-          absurd (not-refused 4 _ (omega arith) (omega arith) (omega (arith, blocks_most b later_head)) (result_blocks b later_length later_checks later_head (eqb-false (blocks_needed b) (block_count b) e)))
+          absurd (not_refused 4 _ (omega arith) (omega arith) (omega (arith, blocks_most b later_head)) (result_blocks b later_length later_checks later_head (eqb-false (blocks_needed b) (block_count b) e)))
 
   pub later_rows : check_result b ≡ number_of (row_verdict b (first_fault b))
   later_rows = result_rows b later_length later_checks later_head later_blocks

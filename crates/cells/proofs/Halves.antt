@@ -110,9 +110,9 @@ run_turn {b} {begin} {from} {k} {j} {m} {keep} half x h e f = record { at = λ i
     added true z = bit-or k keep (2 ^ k) ∙ or_r (bit k keep) _ (bit_pow k)
     added false z = z
 
-    as-was : (t : Bool) (i : ℕ) → (i ≡ k → ⊥) → bit i (cond t (bit_or keep (2 ^ k)) keep) ≡ bit i keep
-    as-was true i n = bit-or i keep (2 ^ k) ∙ ap (λ (s : Bool). bit i keep || s) (bit_pow_other k i n) ∙ or-false (bit i keep)
-    as-was false i n = refl
+    as_was : (t : Bool) (i : ℕ) → (i ≡ k → ⊥) → bit i (cond t (bit_or keep (2 ^ k)) keep) ≡ bit i keep
+    as_was true i n = bit-or i keep (2 ^ k) ∙ ap (λ (s : Bool). bit i keep || s) (bit_pow_other k i n) ∙ or-false (bit i keep)
+    as_was false i n = refl
 
     here : (i : ℕ) → i ≡ k → bit i (cond (bit (x % 32) half) (bit_or keep (2 ^ k)) keep) ≡ (ltb i (k + 1) && test i)
     here i z =
@@ -121,7 +121,7 @@ run_turn {b} {begin} {from} {k} {j} {m} {keep} half x h e f = record { at = λ i
         (added (bit (x % 32) half) (h.at k ∙ ap (λ (s : Bool). s && test k) (le-ltb k k (omega arith))) ∙ f ∙ ap (λ (y : ℕ). bit y m) e)
 
     other : (i : ℕ) → (i ≡ k → ⊥) → bit i (cond (bit (x % 32) half) (bit_or keep (2 ^ k)) keep) ≡ (ltb i (k + 1) && test i)
-    other i n = as-was (bit (x % 32) half) i n ∙ h.at i ∙ ap (λ (s : Bool). s && test i) (same (below i k))
+    other i n = as_was (bit (x % 32) half) i n ∙ h.at i ∙ ap (λ (s : Bool). s && test i) (same (below i k))
       where
         same : (i < k) ⊎ (k ≤ i) → ltb i k ≡ ltb i (k + 1)
         same (inl l) = lt-ltb i k l ∙ sym (lt-ltb i (k + 1) (omega arith))

@@ -164,9 +164,9 @@ with_some {d} f n = record { at = λ x c. bit-or (x % 64) d (2 ^ 63) ∙ at x c 
 
 -- of the rows of a word whose cells are places of m, those with a cell in the domain
 module _ {b : List ℕ} {begin from j word r : ℕ} (h : Readable b begin from word) (l : j < 4) where
-  by-set : (m : ℕ) (test : ℕ → Bool) → ((x : ℕ) → IsCell x → bit (x % 64) m ≡ test x) → KeptBy b begin from j m word r
+  by_set : (m : ℕ) (test : ℕ → Bool) → ((x : ℕ) → IsCell x → bit (x % 64) m ≡ test x) → KeptBy b begin from j m word r
       → (k : ℕ) → bit k r ≡ (bit k word && test (cell_at b begin (from + k) j))
-  by-set m test e p k = p.at k ∙ go (either (bit k word))
+  by_set m test e p k = p.at k ∙ go (either (bit k word))
     where
       go : (bit k word ≡ true) ⊎ (bit k word ≡ false)
           → (bit k word && bit (cell_at b begin (from + k) j % 64) m) ≡ (bit k word && test (cell_at b begin (from + k) j))
@@ -174,10 +174,10 @@ module _ {b : List ℕ} {begin from j word r : ℕ} (h : Readable b begin from w
       go (inr t) = rw t refl
 
   pub kept_with : {d m : ℕ} → WithAny d m → KeptBy b begin from j m word r → Kept b begin from j d word r
-  kept_with {d} {m} a p = record { at = by-set m (λ x. in_domain x d) a.at p }
+  kept_with {d} {m} a p = record { at = by_set m (λ x. in_domain x d) a.at p }
 
   pub kept_any : KeptBy b begin from j (2 ^ 63) word r → KeptAny b begin from j word r
-  kept_any p = record { at = by-set (2 ^ 63) is_any any p }
+  kept_any p = record { at = by_set (2 ^ 63) is_any any p }
     where
       any : (x : ℕ) → IsCell x → bit (x % 64) (2 ^ 63) ≡ is_any x
       any x (inl a) = rw (any_place x a, a) (bit_pow 63)

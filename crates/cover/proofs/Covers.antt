@@ -18,7 +18,7 @@ use Rattle.cells.specs.Cells.{SmallSets, four_of}
 use Rattle.counters.proofs.Ones.{complement}
 use Rattle.cells.proofs.Walks.{Part, four_all, part_cleared, split, whole}
 use Rattle.words.specs.Sheets.{AtSheet, SheetWords, is_set, value_at}
-use Rattle.words.proofs.Gathers.{nothing-outside, set_cell}
+use Rattle.words.proofs.Gathers.{nothing_outside, set_cell}
 use Rattle.cover.specs.Covers.{AllMatched, ChosenFrom, IsTable, MatchedBy, TableOf, TellsAllowed, TellsMatched, allowed_with, entry_at, set_with, slot}
 use Rattle.cover.proofs.Tables.{match_slot, slot_match, slot_most}
 
@@ -50,7 +50,7 @@ some_outside x y lx ly n =
     (r.0, and_l (bit r.0 x) _ b, not-true _ (sym (complement 32 y r.0 ly r.1) ∙ and_r (bit r.0 x) _ b))
 
 pub none_outside : (x y : ℕ) → x < 2 ^ 32 → y < 2 ^ 32 → bit_and x (ones32 - y) ≡ 0 → (a : ℕ) → bit a x ≡ true → bit a y ≡ true
-none_outside x y lx ly e = nothing-outside x y lx ly (ap not (eq-eqb (bit_and x (ones32 - y)) 0 e))
+none_outside x y lx ly e = nothing_outside x y lx ly (ap not (eq-eqb (bit_and x (ones32 - y)) 0 e))
 
 pub allowed_small : (T : List ℕ) (c e : ℕ) → IsTable T → allowed_with T c e < 2 ^ 32
 unfolding allowed_with
@@ -118,9 +118,9 @@ module _ {b : List ℕ} {begin s : ℕ} (a : AtSheet b begin s) {W X N : List �
   allowed_matched t l0 l1 l2 e p =
       let r = allowed_entry T (t 2) (t 1) (t 0) p in from r.0 r.1 r.2 r.3 (q.sound (33 * r.0 + r.1) (t 0) l0 r.4)
     where
-      slot-most-of : (i c : ℕ) → c < 32 → (i ≡ c) ⊎ (i ≡ 32) → i ≤ 32
-      slot-most-of i c l (inl z) = omega arith
-      slot-most-of i c l (inr z) = omega arith
+      slot_most_of : (i c : ℕ) → c < 32 → (i ≡ c) ⊎ (i ≡ 32) → i ≤ 32
+      slot_most_of i c l (inl z) = omega arith
+      slot_most_of i c l (inr z) = omega arith
 
       from : (i j : ℕ) → (i ≡ t 2) ⊎ (i ≡ 32) → (j ≡ t 1) ⊎ (j ≡ 32)
           → (bit (t 0) (get_or (replicate 1089 0) (33 * i + j) 0) ≡ true)
@@ -131,8 +131,8 @@ module _ {b : List ℕ} {begin s : ℕ} (a : AtSheet b begin s) {W X N : List �
           let few = ltb-true r 512 (and_l (ltb r 512) _ set-r) in
           let k = and_r (ltb r 512) _ set-r in
           let set_is = and_l (is_set W s r) _ k in
-          let i-most = slot-most-of i (t 2) l2 y in
-          let j-most = slot-most-of j (t 1) l1 z in
+          let i-most = slot_most_of i (t 2) l2 y in
+          let j-most = slot_most_of j (t 1) l1 z in
           let two : slot (value_at b s r 2) ≡ i = omega (arith, slot_most (value_at b s r 2), slot_most (value_at b s r 1)) in
           let one : slot (value_at b s r 1) ≡ j = omega (arith, slot_most (value_at b s r 2), slot_most (value_at b s r 1)) in
           record {

@@ -34,19 +34,19 @@ module _ (shorts : ℕ) (x : List ℕ) where
   abbrev free : ℕ → ℕ
   free j = cond (bit (8 * j + 7) shorts) 1 (get_or x j 0)
 
-  free-size : (j : ℕ) → cond (bit (8 * j + 7) shorts) 1 (size (get_or x j 0)) ≡ size (free j)
+  free_size : (j : ℕ) → cond (bit (8 * j + 7) shorts) 1 (size (get_or x j 0)) ≡ size (free j)
   unfolding count sum bit
-  free-size j = at (bit (8 * j + 7) shorts)
+  free_size j = at (bit (8 * j + 7) shorts)
     where
       at : (b : Bool) → cond b 1 (size (get_or x j 0)) ≡ size (cond b 1 (get_or x j 0))
       at true = refl
       at false = refl
 
-  plain-space : plain_choices shorts x 4 ≡ space (tab 4 free)
+  plain_space : plain_choices shorts x 4 ≡ space (tab 4 free)
   unfolding plain_choices space tab
-  plain-space =
+  plain_space =
       let n : ℕ → ℕ = λ j. size (free j) in
-      rw (free-size 0, free-size 1, free-size 2, free-size 3, one-mul, mul-one, mul_assoc (n 0 * n 1) (n 2) (n 3), mul_assoc (n 0) (n 1) (n 2 * n 3))
+      rw (free_size 0, free_size 1, free_size 2, free_size 3, one-mul, mul-one, mul_assoc (n 0 * n 1) (n 2) (n 3), mul_assoc (n 0) (n 1) (n 2 * n 3))
 
 -- ---- the choices, as the code counts them
 pub sizes_none : (D : List ℕ) {Z : List ℕ} → Z ≡ replicate 16 0 → SizesTo D 0 Z
@@ -116,8 +116,8 @@ module _ {b : List ℕ} {begin s : ℕ} (a : AtSheet b begin s) (shorts : ℕ) (
 module _ {b : List ℕ} {begin s : ℕ} (a : AtSheet b begin s) {W X N : List ℕ} (h : SheetWords b s W X N) {shorts : ℕ} (c : ShortPlaces b s shorts)
     {x : List ℕ} (z : SmallSets x) (f : FilledSets x) where
   -- at a place with 255 any value of the set will do: its lowest
-  abbrev with-lowest : List ℕ → ℕ → ℕ
-  with-lowest t j = cond (bit (8 * j + 7) shorts) (count_trailing_zeros 32 (get_or x j 0)) (get_or t j 0)
+  abbrev with_lowest : List ℕ → ℕ → ℕ
+  with_lowest t j = cond (bit (8 * j + 7) shorts) (count_trailing_zeros 32 (get_or x j 0)) (get_or t j 0)
 
   -- and its cells are not looked at
   abbrev plain_cell : ℕ → ℕ → ℕ
@@ -129,10 +129,10 @@ module _ {b : List ℕ} {begin s : ℕ} (a : AtSheet b begin s) {W X N : List �
     taken j l = ap (bit (get_or t j 0)) (sym (get_or-tab 0 4 (free shorts x) j l)) ∙ k.each j (rw length-tab l)
 
     -- a choice from the sets of `free` makes one from x
-    chosen : ChosenFrom x (with-lowest t)
+    chosen : ChosenFrom x (with_lowest t)
     chosen = record { each = λ j l. go j l (either (bit (8 * j + 7) shorts)) }
       where
-        go : (j : ℕ) → j < 4 → (bit (8 * j + 7) shorts ≡ true) ⊎ (bit (8 * j + 7) shorts ≡ false) → bit (with-lowest t j) (get_or x j 0) ≡ true
+        go : (j : ℕ) → j < 4 → (bit (8 * j + 7) shorts ≡ true) ⊎ (bit (8 * j + 7) shorts ≡ false) → bit (with_lowest t j) (get_or x j 0) ≡ true
         go j l (inl e) =
             let v = f.some j l in
             let p : 0 < get_or x j 0 = positive (get_or x j 0) (λ y. false≢true (sym (bit_of_zero v.0) ∙ ap (bit v.0) (sym y) ∙ v.1)) in
@@ -140,7 +140,7 @@ module _ {b : List ℕ} {begin s : ℕ} (a : AtSheet b begin s) {W X N : List �
         go j l (inr e) = rw e (rw e at (taken j l))
 
     -- the row that matches that one has the values of t: without 255 a cell is the value that it matches
-    row_of : MatchedBy b s W (with-lowest t)
+    row_of : MatchedBy b s W (with_lowest t)
         → (q : ℕ) × (q < 64 * get_or N s 0) × (passes h.sized s q ≡ true) × ((j : ℕ) → j < length (tab 4 (free shorts x)) → plain_cell q j ≡ get_or t j 0)
     row_of m =
         let r = m.row in
@@ -165,7 +165,7 @@ module _ {b : List ℕ} {begin s : ℕ} (a : AtSheet b begin s) {W X N : List �
   few_missed l m =
       omega (
         arith,
-        crowded (tab 4 (free shorts x)) (64 * get_or N s 0) (passes h.sized s) plain_cell (λ t k. row_of k (m.each (with-lowest t) (chosen k))),
+        crowded (tab 4 (free shorts x)) (64 * get_or N s 0) (passes h.sized s) plain_cell (λ t k. row_of k (m.each (with_lowest t) (chosen k))),
         rows_count h.sized s (get_or N s 0),
-        plain-space shorts x,
+        plain_space shorts x,
       )

@@ -43,8 +43,8 @@ module _ {b : List ℕ} {begin s : ℕ} (a : AtSheet b begin s) {D W X N x : Lis
   abbrev sheet : Sheet
   sheet = sheet_at (book_of b) s
 
-  filled-sets : FilledSets x
-  filled-sets = record { some = λ j l. go j l (below j (width_of b s)) }
+  filled_sets : FilledSets x
+  filled_sets = record { some = λ j l. go j l (below j (width_of b s)) }
     where
       go : (j : ℕ) → j < 4 → (j < width_of b s) ⊎ (width_of b s ≤ j) → (v : ℕ) × (bit v (get_or x j 0) ≡ true)
       go j l (inl p) = let v = k.filled j p in (v.0, rw (w.at j p) v.1)
@@ -116,26 +116,26 @@ module _ {b : List ℕ} {begin s : ℕ} (a : AtSheet b begin s) {D W X N x : Lis
         cells r l row f m j p (inr q) =
             rw (unused_value a r j l q p, bit_pow_only 0 (t j) (rw (w.rest j q p) at (c.each j p))) (matches_self 0)
 
-  matched-subsumed : AllMatched b s W x → Subsumed D sheet
-  matched-subsumed m = record { each = λ t c. allowed c (m.each (λ j. get_or t j 0) (chosen c)) }
+  matched_subsumed : AllMatched b s W x → Subsumed D sheet
+  matched_subsumed m = record { each = λ t c. allowed c (m.each (λ j. get_or t j 0) (chosen c)) }
 
-  subsumed-matched : Subsumed D sheet → AllMatched b s W x
-  subsumed-matched m = record { each = λ t c. matched c (m.each (tab (width_of b s) t) (takes c)) }
+  subsumed_matched : Subsumed D sheet → AllMatched b s W x
+  subsumed_matched m = record { each = λ t c. matched c (m.each (tab (width_of b s) t) (takes c)) }
 
   -- ---- what the code gives
   pub tells_subsumed : {r : Bool} → TellsMatched b s W x r → r ≡ subsumed D sheet
-  tells_subsumed {r} m = same_test r (subsumed D sheet) (λ e. i.1 (matched-subsumed (m.yes e))) (λ e. no e (either r))
+  tells_subsumed {r} m = same_test r (subsumed D sheet) (λ e. i.1 (matched_subsumed (m.yes e))) (λ e. no e (either r))
     where
       i : (subsumed D sheet ≡ true) ↔ Subsumed D sheet
       i = subsumed_iff D d.bits sheet
 
       no : subsumed D sheet ≡ true → (r ≡ true) ⊎ (r ≡ false) → r ≡ true
       no e (inl y) = y
-      no e (inr n) = absurd (m.no n (subsumed-matched (i.0 e)))
+      no e (inr n) = absurd (m.no n (subsumed_matched (i.0 e)))
 
-  few-subsumed : {shorts : ℕ} → ShortPlaces b s shorts → ltb (rows_to W X s (get_or N s 0)) (plain_choices shorts x 4) ≡ true → false ≡ subsumed D sheet
-  few-subsumed c e =
-      tells_subsumed (record { yes = λ z. absurd (false≢true z); no = λ z. few_missed a h c w.small filled-sets (ltb-true _ _ e) })
+  few_subsumed : {shorts : ℕ} → ShortPlaces b s shorts → ltb (rows_to W X s (get_or N s 0)) (plain_choices shorts x 4) ≡ true → false ≡ subsumed D sheet
+  few_subsumed c e =
+      tells_subsumed (record { yes = λ z. absurd (false≢true z); no = λ z. few_missed a h c w.small filled_sets (ltb-true _ _ e) })
 
 -- ---- before the sets of the places are laid out
 -- they are these
@@ -163,13 +163,13 @@ pub few_rows : {b : List ℕ} {begin s : ℕ} (a : AtSheet b begin s) {D W X N Z
     → SizesTo D 16 Z → {shorts : ℕ} → ShortPlaces b s shorts → ltb (rows_to W X s (get_or N s 0)) (plain_in b s shorts Z (width_of b s)) ≡ true
     → false ≡ subsumed D (sheet_at (book_of b) s)
 few_rows a {Z = Z} d h k plain z {shorts} c e =
-    few-subsumed a d h k plain (wanted_list a d) c (rw (plain_same a shorts Z z (wanted_list a d)) at e)
+    few_subsumed a d h k plain (wanted_list a d) c (rw (plain_same a shorts Z z (wanted_list a d)) at e)
 
 -- ---- a sheet that forbids its rows: no row is set exactly when no word is
 pub forbidden_covered : {b : List ℕ} {begin s : ℕ} (a : AtSheet b begin s) {D W X N : List ℕ} {n : ℕ} → IsStore 16 D → SheetWords b s W X N → SettledSheet b s D W
     → forbids_of b s ≡ true → n ≡ get_or N s 0 → eqb n 0 ≡ subsumed D (sheet_at (book_of b) s)
 unfolding is_set
-forbidden_covered {b} {begin} {s} a {D} {W} {X} {N} {n} d h k f e = same_test _ _ (λ t. i.1 (none_forbidden D (book_of b).counts sheet formed-sheet few d.bits forbids (none t))) (λ t. empty (i.0 t) (either (eqb n 0)))
+forbidden_covered {b} {begin} {s} a {D} {W} {X} {N} {n} d h k f e = same_test _ _ (λ t. i.1 (none_forbidden D (book_of b).counts sheet formed_sheet few d.bits forbids (none t))) (λ t. empty (i.0 t) (either (eqb n 0)))
   where
     sheet : Sheet
     sheet = sheet_at (book_of b) s
@@ -177,8 +177,8 @@ forbidden_covered {b} {begin} {s} a {D} {W} {X} {N} {n} d h k f e = same_test _ 
     i : (subsumed D (sheet_at (book_of b) s) ≡ true) ↔ Subsumed D (sheet_at (book_of b) s)
     i = subsumed_iff D d.bits (sheet_at (book_of b) s)
 
-    formed-sheet : WellFormedSheet (book_of b).counts (sheet_at (book_of b) s)
-    formed-sheet = (formed a).sheet _ (sheet_in a)
+    formed_sheet : WellFormedSheet (book_of b).counts (sheet_at (book_of b) s)
+    formed_sheet = (formed a).sheet _ (sheet_in a)
 
     few : (c : ℕ) → c < length (book_of b).counts → get_or (book_of b).counts c 0 ≤ 32
     few = (formed a).few_values
@@ -204,4 +204,4 @@ forbidden_covered {b} {begin} {s} a {D} {W} {X} {N} {n} d h k f e = same_test _ 
         let p = some_bit 64 (of_sheet W s w) (h.sized.bits (8 * s + w)) ((h.indexed.limit 0 (omega arith)).0 (omega arith)) in
         let r = 64 * w + p.0 in
         let l : r < 512 = omega (arith, m, p.1) in
-        absurd (some_forbidden D (book_of b).counts (sheet_at (book_of b) s) formed-sheet few d.bits forbids u r (sym (set_valid k r l) ∙ row_word W s w p.0 p.1 ∙ p.2))
+        absurd (some_forbidden D (book_of b).counts (sheet_at (book_of b) s) formed_sheet few d.bits forbids u r (sym (set_valid k r l) ∙ row_word W s w p.0 p.1 ∙ p.2))

@@ -89,12 +89,12 @@ row_put {x} {y} {z} {r} {T} i h m l e =
           (bit-or a (get_or T i 0) r ∙ ap (λ (t : Bool). bit a (get_or T i 0) || t) (m.at a q)))
           (λ n.
           let there : eqb k (33 * slot z + slot y) ≡ false = ne_eqb k _ (λ p. n (p ∙ sym e)) in
-          rw (there, get_or-set_other T i k (bit_or (get_or T i 0) r) 0 n) (sym (or-none (bit a (get_or T k 0)))));
+          rw (there, get_or-set_other T i k (bit_or (get_or T i 0) r) 0 n) (sym (or_none (bit a (get_or T k 0)))));
     }
   where
-    or-none : (t : Bool) → (t || false) ≡ t
-    or-none true = refl
-    or-none false = refl
+    or_none : (t : Bool) → (t || false) ≡ t
+    or_none true = refl
+    or_none false = refl
 
 -- ---- the rows of a word
 pub tabled_none : {cell : ℕ → ℕ → ℕ} {passes : ℕ → Bool} {T : List ℕ} → IsTable T → ((k : ℕ) → passes k ≡ false) → Tabled cell passes T T

@@ -180,30 +180,30 @@ module _ (b : List ℕ) (acc : Accepted b) {D W X N : List ℕ} (hd : FullDomain
   right : RightBook b
   right = accepted_right b acc
 
-  value-bit : (c v : ℕ) → c < columns_of b → has D c v ≡ ltb v (values_of b c)
+  value_bit : (c v : ℕ) → c < columns_of b → has D c v ≡ ltb v (values_of b c)
   unfolding has
-  value-bit c v l = rw (hd.full c l) (places_bit (values_of b c) v (values_range b right.head c l).1)
+  value_bit c v l = rw (hd.full c l) (places_bit (values_of b c) v (values_range b right.head c l).1)
 
   -- every row is valid
-  every-row : (s r : ℕ) → s < sheets_of b → valid_row D (sheet_at (book_of b) s) r ≡ ltb r (rows_of b s)
+  every_row : (s r : ℕ) → s < sheets_of b → valid_row D (sheet_at (book_of b) s) r ≡ ltb r (rows_of b s)
   unfolding has
-  every-row s r l =
+  every_row s r l =
       same_test _ _
       (λ e. lt-ltb r (rows_of b s) (valid_e a D r e).0)
       (λ e.
       let n = ltb-true r (rows_of b s) e in
       valid_i a D r n
-      (λ j k. in-full j (value_at b s r j) k (⊎_elim (λ q. inl q.1) (λ q. inr q) (cell_value a r j n k))))
+      (λ j k. in_full j (value_at b s r j) k (⊎_elim (λ q. inl q.1) (λ q. inr q) (cell_value a r j n k))))
     where
       a : AtSheet b (first_byte b s) s
       a = at_sheet b acc s l
 
       -- all values are there, and there is one
-      in-full : (j x : ℕ) → j < width_of b s → (is_any x ≡ true) ⊎ (x < values_of b (column_of b s j)) → in_domain x (get_or D (column_of b s j) 0) ≡ true
-      in-full j x k e =
+      in_full : (j x : ℕ) → j < width_of b s → (is_any x ≡ true) ⊎ (x < values_of b (column_of b s j)) → in_domain x (get_or D (column_of b s j) 0) ≡ true
+      in_full j x k e =
           let m = column_inside b right.head s l j k in
           let has_value : (v : ℕ) → v < values_of b (column_of b s j) → bit v (get_or D (column_of b s j) 0) ≡ true
-          = λ v q. value-bit (column_of b s j) v m ∙ lt-ltb v (values_of b (column_of b s j)) q in
+          = λ v q. value_bit (column_of b s j) v m ∙ lt-ltb v (values_of b (column_of b s j)) q in
           ⊎_elim
           (λ z. in_domain_i x _ 0 (matches_any x 0 z) (has_value 0 (values_range b right.head (column_of b s j) m).0))
           (λ q. in_domain_i x _ x (matches_self x) (has_value x q)) e
@@ -211,8 +211,8 @@ module _ (b : List ℕ) (acc : Accepted b) {D W X N : List ℕ} (hd : FullDomain
   own : (s i : ℕ) → s < 8 → i < 8 → of_sheet X s i ≡ i
   own s i l m = let e : (8 * s + i) % 8 ≡ i = omega arith in hx.own (8 * s + i) (omega arith) ∙ e
 
-  full-index : (s : ℕ) → s < sheets_of b → IndexOf s W X N
-  full-index s l = record {
+  full_index : (s : ℕ) → s < sheets_of b → IndexOf s W X N
+  full_index s l = record {
     few = omega (arith, hr.nonzero s l, rows_most b right.head s l);
     each = λ i m. omega (arith, own s i k m);
     once = λ i j m q e. sym (own s i k m) ∙ e ∙ own s j k q;
@@ -238,8 +238,8 @@ module _ (b : List ℕ) (acc : Accepted b) {D W X N : List ℕ} (hd : FullDomain
           (λ j q. (hr.full s i l m).at j q ∙ le-ltb (64 * i + j) (rows_of b s) (omega arith) ∙ sym (bit_of_zero j)) in
           (λ q. absurd (omega arith), λ q. absurd (omega arith))
 
-  domain-bits : (c : ℕ) → get_or D c 0 < 2 ^ 32
-  domain-bits c = go (below c (columns_of b))
+  domain_bits : (c : ℕ) → get_or D c 0 < 2 ^ 32
+  domain_bits c = go (below c (columns_of b))
     where
       go : (c < columns_of b) ⊎ (columns_of b ≤ c) → get_or D c 0 < 2 ^ 32
       go (inl l) = rw (hd.full c l) (places_lt (values_of b c) 32 (values_range b right.head c l).1 (omega arith))
@@ -255,17 +255,17 @@ module _ (b : List ℕ) (acc : Accepted b) {D W X N : List ℕ} (hd : FullDomain
 
   pub full_ready : {waiting : ℕ} → waiting ≡ places_below (sheets_of b) → Ready b true waiting 0 D W X N
   full_ready {waiting} e = record {
-    store = record { columns = hd.size; bits = domain-bits };
+    store = record { columns = hd.size; bits = domain_bits };
     sized = record { words = hr.words.size; bits = hr.words.fits; index = hx.size; nonzero = hr.size };
-    filled = λ c l. (0, value-bit c 0 l ∙ lt-ltb 0 (values_of b c) (values_range b right.head c l).0);
+    filled = λ c l. (0, value_bit c 0 l ∙ lt-ltb 0 (values_of b c) (values_range b right.head c l).0);
     past = past;
     sheet = λ s l. record {
       saw = D;
       seen = record {
         rows = λ w m.
             word_same D (sheet_at (book_of b) s) w (of_sheet W s w) (hr.words.fits (8 * s + w))
-            (λ k q. (hr.full s w l m).at k q ∙ sym (every-row s (64 * w + k) l));
-        indexed = full-index s l;
+            (λ k q. (hr.full s w l m).at k q ∙ sym (every_row s (64 * w + k) l));
+        indexed = full_index s l;
         supported = λ q. absurd (false≢true (sym q));
       };
       within = record { at = λ c v q. q };

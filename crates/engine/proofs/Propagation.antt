@@ -219,8 +219,8 @@ module _ (b : List ℕ) (acc : Accepted b) where
           go (inl f) = absurd (true≢false (sym (all_in_e (book_of b).sheets (supported_in D c v) f (sheet_at (book_of b) s) (sheet_in a)) ∙ e))
           go (inr f) = f
 
-      still-between : Between (column_count (book_of b)) (supported (book_of b)) (store_in b D₀) D'
-      still-between =
+      still_between : Between (column_count (book_of b)) (supported (book_of b)) (store_in b D₀) D'
+      still_between =
           between_strike (column_count (book_of b)) (supported (book_of b)) (supported_mono (book_of b)) (store_in b D₀) (is_store_in b h.start) D D'
           h.between r.loses.within (λ c v e. ⊎_elim (λ f. inl f) (λ f. inr (unsupported c v f)) (r.struck c v e))
 
@@ -258,21 +258,21 @@ module _ (b : List ℕ) (acc : Accepted b) where
               indexed_same (h.sheet t l).seen.indexed (λ i m. r.only.index t i m n) (r.only.nonzero t n) (λ w m. r.only.words t w m n)
 
       module _ {rest : ℕ} {G' : List ℕ} {left' : ℕ} (c : Cleared left rest s) (open-sheet : satisfied ≡ true) (small : rest < 256) (w : Woken M s lost (set G s 0) rest G' left') where
-        rest-bit : (t : ℕ) → (t ≡ s → ⊥) → bit t rest ≡ bit t left
-        rest-bit t n = c.rest t n
+        rest_bit : (t : ℕ) → (t ≡ s → ⊥) → bit t rest ≡ bit t left
+        rest_bit t n = c.rest t n
 
-        own-changed : get_or G' s 0 ≡ 0
-        own-changed = rw (eq-eqb s s refl) at (w.changed s (eight_sheets b acc s one))
+        own_changed : get_or G' s 0 ≡ 0
+        own_changed = rw (eq-eqb s s refl) at (w.changed s (eight_sheets b acc s one))
 
-        other-changed : (t : ℕ) → t < sheets_of b → (t ≡ s → ⊥) → get_or G' t 0 ≡ bit_or (get_or G t 0) lost
-        other-changed t l n =
+        other_changed : (t : ℕ) → t < sheets_of b → (t ≡ s → ⊥) → get_or G' t 0 ≡ bit_or (get_or G t 0) lost
+        other_changed t l n =
             (rw (ne_eqb t s n) at (w.changed t (eight_sheets b acc t l))) ∙ ap (λ (x : ℕ). bit_or x lost) (get_or-set_other G s t 0 0 n)
 
         -- a sheet that does not wait did not wait, and has no column in `lost`
-        not-waiting : (t : ℕ) → t < sheets_of b → (t ≡ s → ⊥) → bit t left' ≡ false → (bit t left ≡ false) × (touches (get_or M t 0) lost ≡ false)
-        not-waiting t l n e =
+        not_waiting : (t : ℕ) → t < sheets_of b → (t ≡ s → ⊥) → bit t left' ≡ false → (bit t left ≡ false) × (touches (get_or M t 0) lost ≡ false)
+        not_waiting t l n e =
             let z : (bit t rest || (not (eqb t s) && touches (get_or M t 0) lost)) ≡ false = sym (w.waits t (eight_sheets b acc t l)) ∙ e in (
-              sym (rest-bit t n) ∙ or_false_l (bit t rest) _ z,
+              sym (rest_bit t n) ∙ or_false_l (bit t rest) _ z,
               rw (ne_eqb t s n) at (or_false_r (bit t rest) _ z),
             )
 
@@ -290,32 +290,32 @@ module _ (b : List ℕ) (acc : Accepted b) where
           sized = r.sized;
           size = w.size;
           small = w.small;
-          between = still-between;
+          between = still_between;
           filled = λ k l. let v = h.filled k l in r.filled open-sheet k v.0 v.1;
           sheet = λ t.
               by (λ (t : ℕ). t < sheets_of b → SheetKnown b t (get_or G' t 0) (opening && bit t left') D' W' X' N')
-              (λ l. rw own-changed (known_seen (r.seen open-sheet))) t
+              (λ l. rw own_changed (known_seen (r.seen open-sheet))) t
               (λ n l.
-              rw (other-changed t l n)
+              rw (other_changed t l n)
               (known_as (λ e. waited t l n e (either opening)) (other_known b r.only n r.loses (h.sheet t l))));
           quiet = λ t.
               by (λ (t : ℕ). t < sheets_of b → bit t left' ≡ false → (j : ℕ) → j < width_of b t → bit (column_of b t j) (get_or G' t 0) ≡ false)
-              (λ l e j m. rw own-changed (bit_of_zero (column_of b s j))) t
+              (λ l e j m. rw own_changed (bit_of_zero (column_of b s j))) t
               (λ n l e j m.
-              let f = not-waiting t l n e in
-              rw (other-changed t l n)
+              let f = not_waiting t l n e in
+              rw (other_changed t l n)
               (bit-or (column_of b t j) (get_or G t 0) lost
-              ∙ or-none (h.quiet t l f.0 j m) (untouched_column lay t lost j l m f.1)));
+              ∙ or_none (h.quiet t l f.0 j m) (untouched_column lay t lost j l m f.1)));
           used = λ t e. used t e;
         }
           where
-            or-none : {x y : Bool} → x ≡ false → y ≡ false → (x || y) ≡ false
-            or-none p q = rw (p, q) refl
+            or_none : {x y : Bool} → x ≡ false → y ≡ false → (x || y) ≡ false
+            or_none p q = rw (p, q) refl
 
             -- a sheet that has looked and does not wait did not wait
             waited : (t : ℕ) → t < sheets_of b → (t ≡ s → ⊥) → (opening && bit t left') ≡ false → (opening ≡ true) ⊎ (opening ≡ false) → (opening && bit t left) ≡ false
             waited t l n e (inr p) = rw p refl
-            waited t l n e (inl p) = let q : bit t left' ≡ false = rw p at e in rw (p, (not-waiting t l n q).0) refl
+            waited t l n e (inl p) = let q : bit t left' ≡ false = rw p at e in rw (p, (not_waiting t l n q).0) refl
 
             used : (t : ℕ) → bit t left' ≡ true → t < sheets_of b
             used t e =
@@ -323,7 +323,7 @@ module _ (b : List ℕ) (acc : Accepted b) where
               where
                 go : (bit t rest ≡ true) ⊎ ((not (eqb t s) && touches (get_or M t 0) lost) ≡ true) → (eqb t s ≡ true) ⊎ (eqb t s ≡ false) → t < sheets_of b
                 go (inl f) (inl q) = rw (eqb-true t s q) one
-                go (inl f) (inr q) = h.used t (sym (rest-bit t (eqb-false t s q)) ∙ f)
+                go (inl f) (inr q) = h.used t (sym (rest_bit t (eqb-false t s q)) ∙ f)
                 go (inr f) q = touched_sheet lay t lost (and_r (not (eqb t s)) _ f)
 
         -- a turn strikes a value, or takes a sheet off the worklist

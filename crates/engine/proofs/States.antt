@@ -73,13 +73,13 @@ module _ (b : List ℕ) (acc : Accepted b) (L : List Entry) {D W X N : List ℕ}
             ext_get_or 0 (meet E c m) E (length-set E c (bit_and (get_or E c 0) m))
             (λ k q. go k (either (eqb k c)))
           where
-            inside-E : c < length E
-            inside-E = omega (arith, low, (domains_store bk L).columns)
+            inside_E : c < length E
+            inside_E = omega (arith, low, (domains_store bk L).columns)
 
             go : (k : ℕ) → (eqb k c ≡ true) ⊎ (eqb k c ≡ false) → get_or (meet E c m) k 0 ≡ get_or E k 0
             go k (inl f) =
                 let y = eqb-true k c f in
-                rw (y, get_or-set_same E c (bit_and (get_or E c 0) m) 0 inside-E, ← h.domain c) e
+                rw (y, get_or-set_same E c (bit_and (get_or E c 0) m) 0 inside_E, ← h.domain c) e
             go k (inr f) = get_or-set_other E c k (bit_and (get_or E c 0) m) 0 (eqb-false k c f)
 
         same : domains bk (L ++ (narrowed c m ∷ [])) ≡ domains bk L
@@ -142,10 +142,10 @@ module _ (b : List ℕ) (acc : Accepted b) (L : List Entry) {D W X N : List ℕ}
           go (inr f) =
               absurd
               (left
-              (ap (λ (x : ℕ). bit_and x m) (h.domain c ∙ ap (λ (x : List ℕ). get_or x c 0) f ∙ empty-entry c) ∙ and_zero_l m))
+              (ap (λ (x : ℕ). bit_and x m) (h.domain c ∙ ap (λ (x : List ℕ). get_or x c 0) f ∙ empty_entry c) ∙ and_zero_l m))
             where
-              empty-entry : (k : ℕ) → get_or (empty_store (column_count bk)) k 0 ≡ 0
-              empty-entry k = no_value b acc k
+              empty_entry : (k : ℕ) → get_or (empty_store (column_count bk)) k 0 ≡ 0
+              empty_entry k = no_value b acc k
 
       pub narrow_ready : {begins M S : List ℕ} → LayoutOf b begins M S → {waiting : ℕ} → WaitingFor M ((1 * 2 ^ c) % 2 ^ 32) 8 waiting
           → Ready b false waiting ((1 * 2 ^ c) % 2 ^ 32) (meet D c m) W X N
@@ -154,7 +154,7 @@ module _ (b : List ℕ) (acc : Accepted b) (L : List Entry) {D W X N : List ℕ}
         store = meet_store 16 D c m d small;
         sized = z;
         filled = λ k q. filled k q (either (eqb c k));
-        past = λ k v e. inside k v (met-within.at k v e);
+        past = λ k v e. inside k v (met_within.at k v e);
         sheet = λ s q.
             let a = at_sheet b acc s q in
             let own = sheet_at bk s in
@@ -168,7 +168,7 @@ module _ (b : List ℕ) (acc : Accepted b) (L : List Entry) {D W X N : List ℕ}
                     supported_in_same D E own agree k v
                     ∙ all_in_e bk.sheets (supported_in E k v) (rested.supported k v (sym (same_has k v) ∙ e)) own (sheet_in a);
               };
-              within = met-within;
+              within = met_within;
               same = λ k f. get_or-set_other D c k (bit_and (get_or D c 0) m) 0 (λ x. false≢true (sym f ∙ ap (λ (i : ℕ). bit i ((1 * 2 ^ c) % 2 ^ 32)) x ∙ shifted_bit 32 c (omega (arith, small))));
             };
         quiet = λ s q e. (
@@ -184,8 +184,8 @@ module _ (b : List ℕ) (acc : Accepted b) (L : List Entry) {D W X N : List ℕ}
           small : c < 16
           small = omega (arith, (columns_range b (accepted_right b acc).head).1)
 
-          met-within : Within (meet D c m) D
-          met-within = meet_within D c m (omega (arith, small, d.columns))
+          met_within : Within (meet D c m) D
+          met_within = meet_within D c m (omega (arith, small, d.columns))
 
           rested : Consistent (column_count bk) (supported bk) E
           rested = consistent_from bk E (domains_store bk L) stood

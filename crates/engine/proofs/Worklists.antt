@@ -77,18 +77,18 @@ pub waiting_more : {M : List ℕ} {lost n r w : ℕ} → WaitingFor M lost n r �
 unfolding waits_bit
 waiting_more {M} {lost} {n} {r} {w} h l e small = record { at = λ f. bit-or f r w ∙ go f (either (eqb f n)) (either (touches (get_or M n 0) lost)); small = or_lt 8 r w h.small small }
   where
-    bit-w : (f : ℕ) → (eqb f n ≡ true) ⊎ (eqb f n ≡ false) → (touches (get_or M n 0) lost ≡ true) ⊎ (touches (get_or M n 0) lost ≡ false)
+    bit_w : (f : ℕ) → (eqb f n ≡ true) ⊎ (eqb f n ≡ false) → (touches (get_or M n 0) lost ≡ true) ⊎ (touches (get_or M n 0) lost ≡ false)
         → bit f w ≡ (eqb f n && touches (get_or M n 0) lost)
-    bit-w f p (inr q) = rw (e, q, and_false (eqb f n)) (bit_of_zero f)
-    bit-w f (inl p) (inl q) = let z = eqb-true f n p in rw (e, q, p, z) (bit_pow n)
-    bit-w f (inr p) (inl q) = rw (e, q, p) (bit_pow_other n f (eqb-false f n p))
+    bit_w f p (inr q) = rw (e, q, and_false (eqb f n)) (bit_of_zero f)
+    bit_w f (inl p) (inl q) = let z = eqb-true f n p in rw (e, q, p, z) (bit_pow n)
+    bit_w f (inr p) (inl q) = rw (e, q, p) (bit_pow_other n f (eqb-false f n p))
 
     go : (f : ℕ) → (eqb f n ≡ true) ⊎ (eqb f n ≡ false) → (touches (get_or M n 0) lost ≡ true) ⊎ (touches (get_or M n 0) lost ≡ false)
         → (bit f r || bit f w) ≡ (ltb f (n + 1) && touches (get_or M f 0) lost)
     go f (inl p) q =
         let z = eqb-true f n p in
-        rw (h.at f, bit-w f (inl p) q, p, z, le-ltb n n (omega arith), lt-ltb n (n + 1) (omega arith))
-    go f (inr p) q = rw (h.at f, bit-w f (inr p) q, p, or-false (ltb f n && touches (get_or M f 0) lost)) (ap (λ (t : Bool). t && touches (get_or M f 0) lost) (ltb_next f n (eqb-false f n p)))
+        rw (h.at f, bit_w f (inl p) q, p, z, le-ltb n n (omega arith), lt-ltb n (n + 1) (omega arith))
+    go f (inr p) q = rw (h.at f, bit_w f (inr p) q, p, or-false (ltb f n && touches (get_or M f 0) lost)) (ap (λ (t : Bool). t && touches (get_or M f 0) lost) (ltb_next f n (eqb-false f n p)))
 
 -- ---- columns that are added
 pub added_none : {G : List ℕ} (lost : ℕ) → length G ≡ 8 → Added G lost 0 G
@@ -136,15 +136,15 @@ module _ {M G : List ℕ} {s waiting : ℕ} (small : waiting < 256) (size : leng
       is_one : one ≡ 2 ^ s
       is_one = e ∙ shifted_one 32 s (omega arith)
 
-      not-s : (f : ℕ) → f < 8 → bit f (ones32 - one) ≡ not (bit f (2 ^ s))
-      not-s f k = rw is_one (complement 32 (2 ^ s) f (pow-lt (let k : s < 32 = omega arith in k)) (omega arith))
+      not_s : (f : ℕ) → f < 8 → bit f (ones32 - one) ≡ not (bit f (2 ^ s))
+      not_s f k = rw is_one (complement 32 (2 ^ s) f (pow-lt (let k : s < 32 = omega arith in k)) (omega arith))
 
       waits : (f : ℕ) → f < 8 → (eqb f s ≡ true) ⊎ (eqb f s ≡ false)
           → (bit f w && bit f (ones32 - one)) ≡ (not (eqb f s) && touches (get_or M f 0) lost)
       waits f k (inl p) =
-          let z = eqb-true f s p in rw (not-s f k, p, z, bit_pow s) (and_false (bit s w))
+          let z = eqb-true f s p in rw (not_s f k, p, z, bit_pow s) (and_false (bit s w))
       waits f k (inr p) =
-          rw (not-s f k, p, bit_pow_other s f (eqb-false f s p), h.at f, lt-ltb f 8 k) (and_true (touches (get_or M f 0) lost))
+          rw (not_s f k, p, bit_pow_other s f (eqb-false f s p), h.at f, lt-ltb f 8 k) (and_true (touches (get_or M f 0) lost))
 
       changed : (f : ℕ) → f < 8 → (eqb f s ≡ true) ⊎ (eqb f s ≡ false) → get_or (set G' s 0) f 0 ≡ cond (eqb f s) 0 (bit_or (get_or G f 0) lost)
       changed f k (inl p) = let z = eqb-true f s p in rw (p, z) (get_or-set_same G' s 0 0 (omega (arith, a.size)))

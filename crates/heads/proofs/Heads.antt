@@ -53,8 +53,8 @@ module _ (b : List ℕ) where
   field_rest i p = past i (omega arith) ∙ rw (le-ltb i 24 (omega arith), le-ltb i 88 p)
 
   -- ---- the entry of sheet s
-  field-entry : (i s o : ℕ) → i ≡ 24 + 8 * s + o → s < 8 → o < 8 → wrong_field b i ≡ wrong_entry b s o
-  field-entry i s o h p q =
+  field_entry : (i s o : ℕ) → i ≡ 24 + 8 * s + o → s < 8 → o < 8 → wrong_field b i ≡ wrong_entry b s o
+  field_entry i s o h p q =
       let d : (i - 24) / 8 ≡ s = omega arith in
       let m : (i - 24) % 8 ≡ o = omega arith in
       past i (omega arith) ∙ rw (le-ltb i 24 (omega arith), lt-ltb i 88 (omega arith), d, m)
@@ -65,37 +65,37 @@ module _ (b : List ℕ) where
   field_unused i p q =
       let s = (i - 24) / 8 in
       let e : 24 + 8 * s + (i - 24) % 8 ≡ i = omega arith in
-      field-entry i s ((i - 24) % 8) (omega arith) (omega arith) (omega arith)
+      field_entry i s ((i - 24) % 8) (omega arith) (omega arith) (omega arith)
       ∙ rw (le-ltb s (sheets_of b) (omega arith)) (ap (set_at b) e)
 
   module _ (s : ℕ) (there : s < 8) (used : s < sheets_of b) where
-    field-used : (i o : ℕ) → i ≡ 24 + 8 * s + o → o < 8 → wrong_field b i ≡ wrong_in_entry b s o
+    field_used : (i o : ℕ) → i ≡ 24 + 8 * s + o → o < 8 → wrong_field b i ≡ wrong_in_entry b s o
     unfolding wrong_entry
-    field-used i o h q = field-entry i s o h there q ∙ rw (lt-ltb s (sheets_of b) used)
+    field_used i o h q = field_entry i s o h there q ∙ rw (lt-ltb s (sheets_of b) used)
 
     pub field_width : wrong_field b (24 + 8 * s) ≡ wrong_width b s
     unfolding wrong_in_entry
-    field_width = field-used (24 + 8 * s) 0 (omega arith) (omega arith)
+    field_width = field_used (24 + 8 * s) 0 (omega arith) (omega arith)
 
     pub field_column : (j : ℕ) → j < 4 → wrong_field b (25 + 8 * s + j) ≡ wrong_column b s j
     unfolding wrong_in_entry
     field_column j q =
         let e : 1 + j - 1 ≡ j = omega arith in
-        field-used (25 + 8 * s + j) (1 + j) (omega arith) (omega arith)
+        field_used (25 + 8 * s + j) (1 + j) (omega arith) (omega arith)
         ∙ rw (ne_eqb (1 + j) 0 (λ z. omega arith), lt-ltb (1 + j) 5 (omega arith), e)
 
     pub field_five : wrong_field b (29 + 8 * s) ≡ set_at b (29 + 8 * s)
     unfolding wrong_in_entry
-    field_five = field-used (29 + 8 * s) 5 (omega arith) (omega arith)
+    field_five = field_used (29 + 8 * s) 5 (omega arith) (omega arith)
 
     pub field_rows : wrong_field b (30 + 8 * s) ≡ wrong_rows b s
     unfolding wrong_in_entry
-    field_rows = field-used (30 + 8 * s) 6 (omega arith) (omega arith)
+    field_rows = field_used (30 + 8 * s) 6 (omega arith) (omega arith)
 
     -- byte 7 belongs to the rows
-    field-high : wrong_field b (31 + 8 * s) ≡ false
+    field_high : wrong_field b (31 + 8 * s) ≡ false
     unfolding wrong_in_entry
-    field-high = field-used (31 + 8 * s) 7 (omega arith) (omega arith)
+    field_high = field_used (31 + 8 * s) 7 (omega arith) (omega arith)
 
     -- right field by field, so far
     pub right_width : wrong_width b s ≡ false → NoneIn (wrong_field b) (24 + 8 * s) (25 + 8 * s)
@@ -105,7 +105,7 @@ module _ (b : List ℕ) where
     right_five h e = none_to (omega arith) h (field_five ∙ e)
 
     pub right_rows : NoneIn (wrong_field b) (24 + 8 * s) (30 + 8 * s) → wrong_rows b s ≡ false → NoneIn (wrong_field b) (24 + 8 * s) (32 + 8 * s)
-    right_rows h e = none_to {i = 31 + 8 * s} (omega arith) (none_to (omega arith) h (field_rows ∙ e)) field-high
+    right_rows h e = none_to {i = 31 + 8 * s} (omega arith) (none_to (omega arith) h (field_rows ∙ e)) field_high
 
 -- "sheets S, 0 to 8"
 pub few_sheets : (b : List ℕ) → wrong_field b 5 ≡ false → sheets_of b ≤ 8

@@ -234,8 +234,8 @@ module _ {b : List ℕ} {begin s : ℕ} (a : AtSheet b begin s) where
   unfolding count sum bit
   one_value = refl
 
-  choices-same : {D x : List ℕ} → Wanted b s D (width_of b s) x → (j : ℕ) → j < width_of b s → others_of x j ≡ choices_but D sheet j
-  choices-same {D} {x} w j l =
+  choices_same : {D x : List ℕ} → Wanted b s D (width_of b s) x → (j : ℕ) → j < width_of b s → others_of x j ≡ choices_but D sheet j
+  choices_same {D} {x} w j l =
       four_choices (λ i. get_or x i 0) (width_of b s) (width_most a).0 (width_most a).1 (λ i p q. ap size (w.rest i p q) ∙ one_value) x (λ i p. refl) j l
       ∙ ap (space_but j) (sym places)
     where
@@ -325,7 +325,7 @@ module _ {b : List ℕ} {begin s : ℕ} (a : AtSheet b begin s) where
           let from = counted_from D (book_of b).counts sheet p few d.bits (sheet_forbids a ∙ f) j v k there n in
           let iff = supported_iff D (book_of b).counts d.bits sheet p j v k in
           let c = values-count f h r j v (get_or N s 0) in
-          let o = choices-same w j l in
+          let o = choices_same w j l in
           u.at j v (omega arith)
           ∙ rw (w.at j l, e)
           (same_test _ _

@@ -52,16 +52,16 @@ module _ {b : List ℕ} {begin s : ℕ} (a : AtSheet b begin s) where
       let e : 64 * (r / 64) + r % 64 ≡ r = omega arith in
       ap (bit (r % 64)) (h (r / 64) (omega arith)) ∙ word_row E sheet (r / 64) (r % 64) (omega arith) ∙ ap (valid_row E sheet) e
 
-  valid-within : {B D : List ℕ} → Within B D → (r : ℕ) → valid_row B (sheet_at (book_of b) s) r ≡ true → valid_row D (sheet_at (book_of b) s) r ≡ true
+  valid_within : {B D : List ℕ} → Within B D → (r : ℕ) → valid_row B (sheet_at (book_of b) s) r ≡ true → valid_row D (sheet_at (book_of b) s) r ≡ true
   unfolding has
-  valid-within {B} {D} w r e =
+  valid_within {B} {D} w r e =
       let q = valid_e a B r e in
       valid_i a D r q.0 (λ j l. let u = in_domain_e _ _ (q.1 j l) in in_domain_i _ _ u.0 u.2 (w.at (column_of b s j) u.0 u.1))
 
   pub rows_known : {changed : ℕ} {opening : Bool} {D W X N : List ℕ} → SheetKnown b s changed opening D W X N → Sized W X N → RowsKnown b s changed D W X N
   rows_known {changed} {opening} {D} {W} h z = record {
     words = record { inside = record { at = λ r l e. (valid_e a h.saw r (sym (at r l) ∙ e)).0 }; indexed = h.seen.indexed; sized = z };
-    all = λ r l e. at r l ∙ valid-within h.within r e;
+    all = λ r l e. at r l ∙ valid_within h.within r e;
     seen = λ r j l e m z. rw (h.same (column_of b s j) z) ((valid_e a h.saw r (sym (at r l) ∙ e)).1 j m);
   }
     where
@@ -77,10 +77,10 @@ module _ {b : List ℕ} {begin s : ℕ} (a : AtSheet b begin s) where
         (λ e. h.all r l e);
   }
 
-  seen-rows : {D W X N : List ℕ} → RowsKnown b s 0 D W X N → ((c v : ℕ) → has D c v ≡ true → supported_in D c v (sheet_at (book_of b) s) ≡ true)
+  seen_rows : {D W X N : List ℕ} → RowsKnown b s 0 D W X N → ((c v : ℕ) → has D c v ≡ true → supported_in D c v (sheet_at (book_of b) s) ≡ true)
       → Seen b s false D W X N
   unfolding is_set
-  seen-rows {D} {W} h f = record {
+  seen_rows {D} {W} h f = record {
     rows = λ w l.
         word_same D sheet w (of_sheet W s w) (h.words.sized.bits (8 * s + w))
         (λ k m.
@@ -115,16 +115,16 @@ module _ {b : List ℕ} {begin s : ℕ} (a : AtSheet b begin s) where
 
   -- ---- columns are struck, whatever the kind of the sheet
   module _ {D E : List ℕ} {lost : ℕ} (d : IsStore 16 D) (p : Struck b s D E lost) where
-    first-column : get_or (sheet_at (book_of b) s).columns 0 0 ≡ column_of b s 0
-    first-column = column_value a 0 (width_most a).0
+    first_column : get_or (sheet_at (book_of b) s).columns 0 0 ≡ column_of b s 0
+    first_column = column_value a 0 (width_most a).0
 
     module _ {W X N W' X' N' : List ℕ} (o : OnlySheet s W X N W' X' N') where
       pub revised_struck : RowsKnown b s 0 E W' X' N' → (w : ℕ) → has E (column_of b s 0) w ≡ true → Revised b s D W X N E W' X' N' true lost
       revised_struck h w e = record {
         loses = p.loses;
         struck = p.settles.struck;
-        seen = λ t. seen-rows h (settles_seen _ D E sheet ((formed a).sheet sheet (sheet_in a)) d.bits p.settles p.loses.store.bits);
-        filled = λ t. settles_filled _ D E sheet ((formed a).sheet sheet (sheet_in a)) d.bits p.settles w (rw first-column e);
+        seen = λ t. seen_rows h (settles_seen _ D E sheet ((formed a).sheet sheet (sheet_in a)) d.bits p.settles p.loses.store.bits);
+        filled = λ t. settles_filled _ D E sheet ((formed a).sheet sheet (sheet_in a)) d.bits p.settles w (rw first_column e);
         failed = λ t. absurd (false≢true (sym t));
         indexed = h.words.indexed;
         only = o;
@@ -140,7 +140,7 @@ module _ {b : List ℕ} {begin s : ℕ} (a : AtSheet b begin s) where
         filled = λ t. absurd (false≢true t);
         failed = λ t j v l.
             rw (← column_value a j l)
-            (settles_failed _ D E sheet ((formed a).sheet sheet (sheet_in a)) d.bits p.settles (λ w e. n w (rw first-column at e)) j v (omega (arith, columns_size a)));
+            (settles_failed _ D E sheet ((formed a).sheet sheet (sheet_in a)) d.bits p.settles (λ w e. n w (rw first_column at e)) j v (omega (arith, columns_size a)));
         indexed = x;
         only = o;
         sized = z;
@@ -150,7 +150,7 @@ module _ {b : List ℕ} {begin s : ℕ} (a : AtSheet b begin s) where
     pub struck_known : {W X N : List ℕ} → RowsKnown b s 0 D W X N → RowsKnown b s lost E W X N
     struck_known h = record {
       words = h.words;
-      all = λ r l e. h.all r l (valid-within p.loses.within r e);
+      all = λ r l e. h.all r l (valid_within p.loses.within r e);
       seen = λ r j l e m q. rw (p.loses.unchanged (column_of b s j) q) (h.seen r j l e m (bit_of_zero (column_of b s j)));
     }
 
@@ -165,9 +165,9 @@ module _ {b : List ℕ} {begin s : ℕ} (a : AtSheet b begin s) where
         rw (z, w.at j m, ne_eqb (value_at b s r j) 255 (λ e. omega arith)) refl
 
     -- at a place that is not used it is the 0 that is wanted there
-    unused-in : (r j : ℕ) → r < rows_of b s → width_of b s ≤ j → j < 4 → bit (value_at b s r j % 32) (get_or x j 0) ≡ true
+    unused_in : (r j : ℕ) → r < rows_of b s → width_of b s ≤ j → j < 4 → bit (value_at b s r j % 32) (get_or x j 0) ≡ true
     unfolding bit
-    unused-in r j l m n = rw (unused_value a r j l m n, w.rest j m n) refl
+    unused_in r j l m n = rw (unused_value a r j l m n, w.rest j m n) refl
 
     -- the rows cut to those with every cell in its domain are the valid ones
     pub inside_known : {lost : ℕ} {W X N W' X' N' : List ℕ} → RowsKnown b s lost D W X N → CutBy (row_inside b begin x) s W X N W' X' N' → RowsKnown b s 0 D W' X' N'
@@ -189,7 +189,7 @@ module _ {b : List ℕ} {begin s : ℕ} (a : AtSheet b begin s) where
         each : (r j : ℕ) → r < rows_of b s → j < 4 → (j < width_of b s → in_domain (value_at b s r j) (get_or D (column_of b s j) 0) ≡ true) → (j < width_of b s) ⊎ (width_of b s ≤ j)
             → bit (value_at b s r j % 32) (get_or x j 0) ≡ true
         each r j l m g (inl k) = cell_in_lem r j l k ∙ g k
-        each r j l m g (inr k) = unused-in r j l k m
+        each r j l m g (inr k) = unused_in r j l k m
 
   -- ---- a sheet that allows its rows
   module _ (plain : forbids_of b s ≡ false) {D W X N W' X' N' : List ℕ} (d : IsStore 16 D) (h : RowsKnown b s 0 D W' X' N') (o : OnlySheet s W X N W' X' N') where
@@ -228,7 +228,7 @@ module _ {b : List ℕ} {begin s : ℕ} (a : AtSheet b begin s) where
     revised_same {changed} {opening} k f same = record {
       loses = loses_none d;
       struck = λ c v e. inl e;
-      seen = λ t. seen-rows h (each_column a d D own);
+      seen = λ t. seen_rows h (each_column a d D own);
       filled = λ t c v e. (v, e);
       failed = λ t. absurd (false≢true (sym t));
       indexed = h.words.indexed;
@@ -262,8 +262,8 @@ module _ {b : List ℕ} {begin s : ℕ} (a : AtSheet b begin s) where
           go v t (inr f) = absurd (false≢true (sym f ∙ t))
 
       -- a count that is not 0 has a row
-      some-row : 0 < get_or N' s 0 → (r : ℕ) × (r < 512) × (is_set W' s r ≡ true)
-      some-row l =
+      some_row : 0 < get_or N' s 0 → (r : ℕ) × (r < 512) × (is_set W' s r ≡ true)
+      some_row l =
           let w = of_sheet X' s 0 in
           let i : w < 8 = h.words.indexed.each 0 (omega arith) in
           let f = some_bit 64 (of_sheet W' s w) (h.words.sized.bits (8 * s + w)) ((h.words.indexed.limit 0 (omega arith)).0 l) in
@@ -273,13 +273,13 @@ module _ {b : List ℕ} {begin s : ℕ} (a : AtSheet b begin s) where
       unfolding has
       after = record {
         words = h.words;
-        all = λ r l e. h.all r l (valid-within p.loses.within r e);
+        all = λ r l e. h.all r l (valid_within p.loses.within r e);
         seen = λ r j l e m q. let u = still r j l e m in in_domain_i _ _ u.0 u.2 u.1;
       }
 
       pub revised_carried : (get_or N' s 0 ≡ 0 → ⊥) → Revised b s D W X N E W' X' N' true lost
       revised_carried some =
-          let r = some-row (positive _ some) in
+          let r = some_row (positive _ some) in
           let u = still r.0 0 r.1 r.2 (width_most a).0 in
           revised_struck d p o after u.0 u.1
 

@@ -4,7 +4,7 @@ use mathlib.Core.List.{flat_map}
 use Rattle.model.specs.Tests.{all_below, any_below, all_in, any_in, sum, count, lowest, eq_list, tab}
 use Rattle.model.specs.Masks.{bit, mask_of}
 use Rattle.model.specs.Stores.{has, store_of, empty_store, all_filled, values}
-use Rattle.model.specs.Closure.{strike, rounds, closureOf}
+use Rattle.model.specs.Closure.{strike, rounds, closure_of}
 use Rattle.model.specs.Choices.{any_choice, space, space_but}
 use Rattle.model.specs.Books.{in_domain, row_matches, is_row, allows, supports, supported_in, supported, closure}
 use Rattle.model.specs.Search.{open_column, value_of, try_each, search_from, searched}
@@ -16,7 +16,7 @@ use Rattle.model.specs.Acceptance.{TenFacts, SevenLines, SearchFacts, TriesFacts
 
 -- opens every definition that an example computes with
 unfoldable pub computing : Unit {0}
-unfolding lowest all_below any_below all_in any_in sum count eq_list tab bit mask_of has store_of empty_store all_filled values strike rounds closureOf any_choice in_domain row_matches is_row allows supports supported_in supported closure wrong_place some_wrong depth before first_cause outside refusal push trail_from permits allowed domains assigned status_of subsumed done_of outcome showing answer answers_from last_from accepted_from answer_bytes open_column value_of try_each search_from searched
+unfolding lowest all_below any_below all_in any_in sum count eq_list tab bit mask_of has store_of empty_store all_filled values strike rounds closure_of any_choice in_domain row_matches is_row allows supports supported_in supported closure wrong_place some_wrong depth before first_cause outside refusal push trail_from permits allowed domains assigned status_of subsumed done_of outcome showing answer answers_from last_from accepted_from answer_bytes open_column value_of try_each search_from searched
 computing = tt
 
 pub ten_facts : TenFacts
@@ -63,7 +63,7 @@ pub refusal_facts : RefusalFacts
 unfolding computing
 refusal_facts =
     record {
-      narrow-byte-2 = refl;
+      narrow_byte_2 = refl;
       narrow_byte_3 = refl;
       narrow_column = refl;
       narrow_mask = refl;
@@ -77,13 +77,13 @@ refusal_facts =
       mark_last_byte = refl;
       mark_16 = refl;
       mark_17 = refl;
-      back-byte-2 = refl;
+      back_byte_2 = refl;
       back_last_byte = refl;
       back_0 = refl;
       back_above = refl;
       back_depth = refl;
       finish_argument = refl;
-      finish-byte-2 = refl;
+      finish_byte_2 = refl;
       finish_byte_3 = refl;
       finish_last_byte = refl;
       finish_65536 = refl;

@@ -105,32 +105,32 @@ module _ (b : Book) (p : WellFormed b) (L : List Entry) where
   abbrev C : ℕ
   C = column_count b
 
-  masks-small : (n c : ℕ) → get_or (outcome_masks (column_count b) (domains b L) (limited n (searched b (domains b L)))) c 0 < 2 ^ 32
-  masks-small n c = go (limited_or n (searched b D))
+  masks_small : (n c : ℕ) → get_or (outcome_masks (column_count b) (domains b L) (limited n (searched b (domains b L)))) c 0 < 2 ^ 32
+  masks_small n c = go (limited_or n (searched b D))
     where
-      zero-small : ◌<◌ 0 (2 ^ 32)
-      zero-small = omega arith
+      zero_small : ◌<◌ 0 (2 ^ 32)
+      zero_small = omega arith
 
-      none-small : get_or (tab C (λ c. 0)) c 0 < 2 ^ 32
-      none-small = rw (tab_zeros C c) zero-small
+      none_small : get_or (tab C (λ c. 0)) c 0 < 2 ^ 32
+      none_small = rw (tab_zeros C c) zero_small
 
-      some-small : (x : List ℕ) → Solution b D x → (c < length x) ⊎ (length x ≤ c) → get_or (map (λ v. 2 ^ v) x) c 0 < 2 ^ 32
-      some-small x f (inl l) =
+      some_small : (x : List ℕ) → Solution b D x → (c < length x) ⊎ (length x ≤ c) → get_or (map (λ v. 2 ^ v) x) c 0 < 2 ^ 32
+      some_small x f (inl l) =
           rw (get_d_map (λ v. 2 ^ v) x c l) (pow-lt (in_store C D (domains_store b L) c (get_or x c 0) (f.takes c (rw f.size at l))).1)
-      some-small x f (inr l) = rw (map_out (λ v. 2 ^ v) x c l) zero-small
+      some_small x f (inr l) = rw (map_out (λ v. 2 ^ v) x c l) zero_small
 
       go : LimitedTo n (searched b D) → get_or (outcome_masks C D (limited n (searched b D))) c 0 < 2 ^ 32
       go (is_found x t e s l) =
-          rw e (some-small x ((searched_found b p D (domains_store b L) (domains_closed b L) x).0 s).solution (below c (length x)))
-      go (is_none t e s l) = rw e none-small
-      go (is_stopped e l) = rw e none-small
+          rw e (some_small x ((searched_found b p D (domains_store b L) (domains_closed b L) x).0 s).solution (below c (length x)))
+      go (is_none t e s l) = rw e none_small
+      go (is_stopped e l) = rw e none_small
 
   pub shown_small : (o : List ℕ) (c : ℕ) → get_or (answer b L o).shown c 0 < 2 ^ 32
   unfolding showing
   shown_small o c = go (finish_or b L o)
     where
       go : AcceptedFinish b L o ⊎ (AcceptedFinish b L o → ⊥) → get_or (answer b L o).shown c 0 < 2 ^ 32
-      go (inl f) = rw (answer_finish b L o f) (masks-small (try_limit o) c)
+      go (inl f) = rw (answer_finish b L o f) (masks_small (try_limit o) c)
       go (inr n) = rw (answer_other b L o n) ((domains_store b (push b L o)).bits c)
 
 -- the tries made fit two bytes

@@ -15,7 +15,7 @@ use borrow.Author.Tests.{eqb-true, eq-eqb, lt-ltb, ltb-true, not-true}
 use Rattle.model.specs.Tests.{any_in}
 use Rattle.model.specs.Masks.{bit}
 use Rattle.model.specs.Stores.{has, Within, IsStore, store_of, empty_store}
-use Rattle.model.specs.Closure.{Monotone, Consistent, closureOf}
+use Rattle.model.specs.Closure.{Monotone, Consistent, closure_of}
 use Rattle.model.specs.Choices.{pick, any_choice}
 use Rattle.model.specs.Books.{Sheet, Book, column_count, in_domain, is_any, matches, row_matches, is_row, allows, WellFormedSheet, WellFormed, Support, ConsistentStore, Stays, Fails, supports, supported_in, supported, closure}
 use Rattle.model.proofs.Tests.{and_l, and_r, and_i, or_e, or_l, or_r, either, all_in_mono, all_in_e, all_in_i, any_in_e, any_in_i, below, positive}
@@ -187,42 +187,42 @@ tidy : Book → List ℕ → List ℕ
 tidy b B = store_of (column_count b) (λ c v. has B c v)
 
 module _ (b : Book) (p : WellFormed b) (A : List ℕ) (a : IsStore (column_count b) A) where
-  tidy-to : (B : List ℕ) → Within B A → Within B (tidy b B)
+  tidy_to : (B : List ℕ) → Within B A → Within B (tidy b B)
   unfolding tidy
-  tidy-to B w =
+  tidy_to B w =
       record {
         at = λ c v e.
             let i = in_store (column_count b) A a c v (w.at c v e) in
             has_i (column_count b) (λ c v. has B c v) c v i.0 i.1 e;
       }
 
-  tidy-from : (B : List ℕ) → Within (tidy b B) B
+  tidy_from : (B : List ℕ) → Within (tidy b B) B
   unfolding tidy
-  tidy-from B = record { at = λ c v e. (has_e (column_count b) (λ c v. has B c v) c v e).2 }
+  tidy_from B = record { at = λ c v e. (has_e (column_count b) (λ c v. has B c v) c v e).2 }
 
-  tidy-consistent : (B : List ℕ) → Within B A → ConsistentStore b B → Consistent (column_count b) (supported b) (tidy b B)
+  tidy_consistent : (B : List ℕ) → Within B A → ConsistentStore b B → Consistent (column_count b) (supported b) (tidy b B)
   unfolding tidy
-  tidy-consistent B w h =
-      consistent_from b (tidy b B) (is_store (column_count b) _) (consistent_same b B (tidy b B) (tidy-to B w) (tidy-from B) h)
+  tidy_consistent B w h =
+      consistent_from b (tidy b B) (is_store (column_count b) _) (consistent_same b B (tidy b B) (tidy_to B w) (tidy_from B) h)
 
   -- a value stays exactly when some consistent store within A holds it
   pub stays_iff : (c v : ℕ) → (has (closure b A) c v ≡ true) ↔ Stays b A c v
   unfolding closure
   stays_iff c v = (to, from)
     where
-      to : has (closureOf (column_count b) (supported b) A) c v ≡ true → Stays b A c v
+      to : has (closure_of (column_count b) (supported b) A) c v ≡ true → Stays b A c v
       to e =
           let s = (closure_iff (column_count b) (supported b) (supported_mono b) A a c v).0 e in
           record { store = s.store; consistent = consistent_to b p s.store s.consistent; within = s.within; holds = s.holds }
 
-      from : Stays b A c v → has (closureOf (column_count b) (supported b) A) c v ≡ true
+      from : Stays b A c v → has (closure_of (column_count b) (supported b) A) c v ≡ true
       from s =
           (closure_iff (column_count b) (supported b) (supported_mono b) A a c v).1
           (record {
             store = tidy b s.store;
-            consistent = tidy-consistent s.store s.within s.consistent;
-            within = within_trans (tidy-from s.store) s.within;
-            holds = (tidy-to s.store s.within).at c v s.holds;
+            consistent = tidy_consistent s.store s.within s.consistent;
+            within = within_trans (tidy_from s.store) s.within;
+            holds = (tidy_to s.store s.within).at c v s.holds;
           })
 
   -- every domain is empty exactly when there is no consistent store within A
@@ -231,8 +231,8 @@ module _ (b : Book) (p : WellFormed b) (A : List ℕ) (a : IsStore (column_count
   fails_iff = (
     λ e. record {
       none = λ B h w.
-          ((failed_iff (column_count b) (supported b) (supported_mono b) A a p.some_column).0 e).none (tidy b B) (tidy-consistent B w h)
-          (within_trans (tidy-from B) w);
+          ((failed_iff (column_count b) (supported b) (supported_mono b) A a p.some_column).0 e).none (tidy b B) (tidy_consistent B w h)
+          (within_trans (tidy_from B) w);
     },
     λ n. (failed_iff (column_count b) (supported b) (supported_mono b) A a p.some_column).1
         (record { none = λ B h w. n.none B (consistent_to b p B h) w }),
@@ -243,10 +243,10 @@ module _ (b : Book) (p : WellFormed b) (A : List ℕ) (a : IsStore (column_count
   unfolding closure
   closed_or_empty = go (consistent_or_empty (column_count b) (supported b) (supported_mono b) A a)
     where
-      go : Consistent (column_count b) (supported b) (closureOf (column_count b) (supported b) A)
-          ⊎ (closureOf (column_count b) (supported b) A ≡ empty_store (column_count b))
-          → ConsistentStore b (closureOf (column_count b) (supported b) A)
-          ⊎ (closureOf (column_count b) (supported b) A ≡ empty_store (column_count b))
+      go : Consistent (column_count b) (supported b) (closure_of (column_count b) (supported b) A)
+          ⊎ (closure_of (column_count b) (supported b) A ≡ empty_store (column_count b))
+          → ConsistentStore b (closure_of (column_count b) (supported b) A)
+          ⊎ (closure_of (column_count b) (supported b) A ≡ empty_store (column_count b))
       go (inl h) = inl (consistent_to b p _ h)
       go (inr e) = inr e
 

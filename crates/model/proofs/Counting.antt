@@ -48,17 +48,17 @@ lower_trans x y z a b = go (below a.column b.column) (below b.column a.column)
         record { column = b.column; same = λ d l. a.same d (omega arith) ∙ b.same d l; less = omega (arith, b.less) }
 
 module _ (rows : List (List ℕ)) (rises : (r : ℕ) → suc r < length rows → Lower (get_or rows r []) (get_or rows (suc r) [])) where
-  lower-on : (k i j : ℕ) → suc (i + k) ≡ j → j < length rows → Lower (get_or rows i []) (get_or rows j [])
-  lower-on zero i j e l = let q : j ≡ suc i = omega arith in rw q (rises i (omega arith))
-  lower-on (suc k) i j e l =
-      lower_trans (get_or rows i []) (get_or rows (suc i) []) (get_or rows j []) (rises i (omega arith)) (lower-on k (suc i) j (omega arith) l)
+  lower_on : (k i j : ℕ) → suc (i + k) ≡ j → j < length rows → Lower (get_or rows i []) (get_or rows j [])
+  lower_on zero i j e l = let q : j ≡ suc i = omega arith in rw q (rises i (omega arith))
+  lower_on (suc k) i j e l =
+      lower_trans (get_or rows i []) (get_or rows (suc i) []) (get_or rows j []) (rises i (omega arith)) (lower_on k (suc i) j (omega arith) l)
 
   not_same : (i j : ℕ) → i < j → j < length rows → get_or rows i [] ≡ get_or rows j [] → ⊥
   not_same i j l k e =
-      let f = lower-on (j - suc i) i j (omega arith) k in omega (arith, f.less, ap (λ (x : List ℕ). get_or x f.column 0) e)
+      let f = lower_on (j - suc i) i j (omega arith) k in omega (arith, f.less, ap (λ (x : List ℕ). get_or x f.column 0) e)
 
-  rows-differ : (i j : ℕ) → i < length rows → j < length rows → get_or rows i [] ≡ get_or rows j [] → i ≡ j
-  rows-differ i j l m e = go (below i j) (below j i)
+  rows_differ : (i j : ℕ) → i < length rows → j < length rows → get_or rows i [] ≡ get_or rows j [] → i ≡ j
+  rows_differ i j l m e = go (below i j) (below j i)
     where
       go : (i < j) ⊎ (j ≤ i) → (j < i) ⊎ (i ≤ j) → i ≡ j
       go (inl p) q = absurd (not_same i j p m e)
@@ -75,9 +75,9 @@ pub record Numbered (D : List ℕ) (s : Sheet) (i v m : ℕ) (passes : ℕ → B
 
 -- ---- the choices with the value v at place i
 module _ (B : List ℕ) (i v : ℕ) (l : i < length B) (e : has B i v ≡ true) where
-  single-e : (t : List ℕ) → Takes (set B i (2 ^ v)) t → Takes B t × (get_or t i 0 ≡ v)
+  single_e : (t : List ℕ) → Takes (set B i (2 ^ v)) t → Takes B t × (get_or t i 0 ≡ v)
   unfolding has
-  single-e t k =
+  single_e t k =
       let here : get_or t i 0 ≡ v = bit_pow_only v (get_or t i 0) (rw (get_or-set_same B i (2 ^ v) 0 l) at (k.each i (rw (length-set B i (2 ^ v)) l))) in
       (record { size = k.size ∙ length-set B i (2 ^ v); each = λ c m. each here c m (either (eqb c i)) }, here)
     where
@@ -86,9 +86,9 @@ module _ (B : List ℕ) (i v : ℕ) (l : i < length B) (e : has B i v ≡ true) 
       each h c m (inr q) =
           rw (get_or-set_other B i c (2 ^ v) 0 (λ z. true≢false (sym (eq-eqb c i z) ∙ q))) at (k.each c (rw (length-set B i (2 ^ v)) m))
 
-  single-i : (t : List ℕ) → Takes B t → get_or t i 0 ≡ v → Takes (set B i (2 ^ v)) t
+  single_i : (t : List ℕ) → Takes B t → get_or t i 0 ≡ v → Takes (set B i (2 ^ v)) t
   unfolding has
-  single-i t k h =
+  single_i t k h =
       record {
         size = k.size ∙ sym (length-set B i (2 ^ v));
         each = λ c m. each c (rw (length-set B i (2 ^ v)) at m) (either (eqb c i));
@@ -98,9 +98,9 @@ module _ (B : List ℕ) (i v : ℕ) (l : i < length B) (e : has B i v ≡ true) 
       each c m (inl q) = let z : c ≡ i = eqb-true c i q in rw (z, h, get_or-set_same B i (2 ^ v) 0 l) (bit_pow v)
       each c m (inr q) = rw (get_or-set_other B i c (2 ^ v) 0 (λ z. true≢false (sym (eq-eqb c i z) ∙ q))) (k.each c m)
 
-  single-small : Small B → Small (set B i (2 ^ v))
+  single_small : Small B → Small (set B i (2 ^ v))
   unfolding has
-  single-small h c = go (either (eqb c i))
+  single_small h c = go (either (eqb c i))
     where
       go : (eqb c i ≡ true) ⊎ (eqb c i ≡ false) → get_or (set B i (2 ^ v)) c 0 < 2 ^ 32
       go (inl q) =
@@ -126,15 +126,15 @@ module _ (D counts : List ℕ) (s : Sheet) (p : WellFormedSheet counts s) (few :
           ne_eqb (get_or (row r) j 0) 255
           (λ e. omega (arith, few (get_or s.columns j 0) (p.inside j (rw (p.row_size r l) at m))))
 
-  row-short : (r : ℕ) → valid_row D s r ≡ true → r < length s.rows
+  row_short : (r : ℕ) → valid_row D s r ≡ true → r < length s.rows
   unfolding valid_row
-  row-short r e = ltb-true r (length s.rows) (and_l (ltb r (length s.rows)) _ e)
+  row_short r e = ltb-true r (length s.rows) (and_l (ltb r (length s.rows)) _ e)
 
   -- a valid row is a choice, and a choice that is a row is a valid one
-  row-takes : (r : ℕ) → valid_row D s r ≡ true → Takes B (row r)
+  row_takes : (r : ℕ) → valid_row D s r ≡ true → Takes B (row r)
   unfolding valid_row in_domain has
-  row-takes r e =
-      let l = row-short r e in
+  row_takes r e =
+      let l = row_short r e in
       let h = valid_e D s.columns (row r) (and_r (ltb r (length s.rows)) _ e) in
       record {
         size = h.0 ∙ sym (length-pick D s.columns);
@@ -143,9 +143,9 @@ module _ (D counts : List ℕ) (s : Sheet) (p : WellFormedSheet counts s) (few :
             pick_i D s.columns j (get_or (row r) j 0) k (rw (not_any r l j (rw h.0 k)) at (h.1 j k));
       }
 
-  row-valid : (r : ℕ) → r < length s.rows → Takes B (row r) → valid_row D s r ≡ true
+  row_valid : (r : ℕ) → r < length s.rows → Takes B (row r) → valid_row D s r ≡ true
   unfolding valid_row
-  row-valid r l k = and_i (lt-ltb r (length s.rows) l) (matched_valid D s.columns (row r) (row r) (row_self (row r)) k)
+  row_valid r l k = and_i (lt-ltb r (length s.rows) l) (matched_valid D s.columns (row r) (row r) (row_self (row r)) k)
 
   -- t is a row: which one
   which : (t : List ℕ) → is_row s t ≡ true → (r : ℕ) × (r < length s.rows) × (row r ≡ t)
@@ -159,14 +159,14 @@ module _ (D counts : List ℕ) (s : Sheet) (p : WellFormedSheet counts s) (few :
   none_forbidden n = record { each = λ t k. allows_forbidden s f t ∙ ap not (go t k (either (is_row s t))) }
     where
       go : (t : List ℕ) → Takes B t → (is_row s t ≡ true) ⊎ (is_row s t ≡ false) → is_row s t ≡ false
-      go t k (inl e) = let r = which t e in absurd (n r.0 (row-valid r.0 r.1 (rw r.2 k)))
+      go t k (inl e) = let r = which t e in absurd (n r.0 (row_valid r.0 r.1 (rw r.2 k)))
       go t k (inr e) = e
 
   pub some_forbidden : Subsumed D s → (r : ℕ) → valid_row D s r ≡ true → ⊥
   some_forbidden h r e =
       true≢false
-      (sym (is_row_i s (row r) (row r) (in_list [] s.rows r (row-short r e)) (row_self (row r)))
-      ∙ not-true _ (sym (allows_forbidden s f (row r)) ∙ h.each (row r) (row-takes r e)))
+      (sym (is_row_i s (row r) (row r) (in_list [] s.rows r (row_short r e)) (row_self (row r)))
+      ∙ not-true _ (sym (allows_forbidden s f (row r)) ∙ h.each (row r) (row_takes r e)))
 
   module _ (i v : ℕ) (l : i < length s.columns) (e : has D (get_or s.columns i 0) v ≡ true) where
     wide : i < length B
@@ -182,7 +182,7 @@ module _ (D counts : List ℕ) (s : Sheet) (p : WellFormedSheet counts s) (few :
     long = length-set B i (2 ^ v) ∙ length-pick D s.columns
 
     small : Small C
-    small = single-small B i v wide here (pick_small D s.columns d)
+    small = single_small B i v wide here (pick_small D s.columns d)
 
     choices : space C ≡ choices_but D s i
     unfolding has
@@ -197,37 +197,37 @@ module _ (D counts : List ℕ) (s : Sheet) (p : WellFormedSheet counts s) (few :
       cell q j = get_or (row (number q)) j 0
 
       inside : (q : ℕ) → q < m → passes q ≡ true → number q < length s.rows
-      inside q k p = row-short (number q) (n.valid q k p)
+      inside q k p = row_short (number q) (n.valid q k p)
 
-      passes-takes : (q : ℕ) → q < m → passes q ≡ true → Takes C (row (number q))
-      passes-takes q k p = single-i B i v wide here (row (number q)) (row-takes (number q) (n.valid q k p)) (n.value q k p)
+      passes_takes : (q : ℕ) → q < m → passes q ≡ true → Takes C (row (number q))
+      passes_takes q k p = single_i B i v wide here (row (number q)) (row_takes (number q) (n.valid q k p)) (n.value q k p)
 
-      row-long : (q : ℕ) → q < m → passes q ≡ true → length (row (number q)) ≡ length C
-      row-long q k z = p.row_size (number q) (inside q k z) ∙ sym long
+      row_long : (q : ℕ) → q < m → passes q ≡ true → length (row (number q)) ≡ length C
+      row_long q k z = p.row_size (number q) (inside q k z) ∙ sym long
 
-      rows-distinct : Distinct C m passes cell
-      rows-distinct =
+      rows_distinct : Distinct C m passes cell
+      rows_distinct =
           record {
-            inside = λ q k z j y. (passes-takes q k z).each j y;
+            inside = λ q k z j y. (passes_takes q k z).each j y;
             differ = λ q r k y a b h.
                 n.once q r k y a b
-                (rows-differ s.rows (p.row_rises f) (number q) (number r) (inside q k a) (inside r y b)
-                (same_rows (row (number q)) (row (number r)) (row-long q k a) (row-long r y b) h));
+                (rows_differ s.rows (p.row_rises f) (number q) (number r) (inside q k a) (inside r y b)
+                (same_rows (row (number q)) (row (number r)) (row_long q k a) (row_long r y b) h));
           }
 
       holes : Pigeonhole C m passes cell
-      holes = pigeonhole C small m passes cell rows-distinct
+      holes = pigeonhole C small m passes cell rows_distinct
 
-      listed-row : (t : List ℕ) → Takes C t → Listed C m passes cell t → is_row s t ≡ true
-      listed-row t k q =
-          let z : row (number q.number) ≡ t = same_rows (row (number q.number)) t (row-long q.number q.inside q.chosen) k.size q.same in
+      listed_row : (t : List ℕ) → Takes C t → Listed C m passes cell t → is_row s t ≡ true
+      listed_row t k q =
+          let z : row (number q.number) ≡ t = same_rows (row (number q.number)) t (row_long q.number q.inside q.chosen) k.size q.same in
           is_row_i s (row (number q.number)) t (in_list [] s.rows (number q.number) (inside q.number q.inside q.chosen)) (rw z (row_self t))
 
       row_listed : (t : List ℕ) → Takes C t → is_row s t ≡ true → Listed C m passes cell t
       row_listed t k q =
           let r = which t q in
-          let h = single-e B i v wide here t k in
-          let u = n.every r.0 (row-valid r.0 r.1 (rw r.2 h.0)) (ap (λ (x : List ℕ). get_or x i 0) r.2 ∙ h.1) in
+          let h = single_e B i v wide here t k in
+          let u = n.every r.0 (row_valid r.0 r.1 (rw r.2 h.0)) (ap (λ (x : List ℕ). get_or x i 0) r.2 ∙ h.1) in
           record {
             number = u.0;
             inside = u.1;
@@ -240,9 +240,9 @@ module _ (D counts : List ℕ) (s : Sheet) (p : WellFormedSheet counts s) (few :
 
       pub counted_to : Support D s i v → count m passes < choices_but D s i
       counted_to k =
-          let t = single-i B i v wide here k.tuple k.valid k.value in
+          let t = single_i B i v wide here k.tuple k.valid k.value in
           let no : is_row s k.tuple ≡ false = not-true _ (sym (allows_forbidden s f k.tuple) ∙ k.sheet_allows) in
-          let ne : count m passes ≡ space C → ⊥ = λ q. true≢false (sym (listed-row k.tuple t (holes.full.0 q k.tuple t)) ∙ no) in
+          let ne : count m passes ≡ space C → ⊥ = λ q. true≢false (sym (listed_row k.tuple t (holes.full.0 q k.tuple t)) ∙ no) in
           omega (arith, holes.most, choices)
 
       pub counted_from : count m passes < choices_but D s i → Support D s i v
@@ -251,7 +251,7 @@ module _ (D counts : List ℕ) (s : Sheet) (p : WellFormedSheet counts s) (few :
           go : (any_choice C (λ t. not (is_row s t)) ≡ true) ⊎ (any_choice C (λ t. not (is_row s t)) ≡ false) → Support D s i v
           go (inl q) =
               let t = any_choice_e C (λ t. not (is_row s t)) q in
-              let h = single-e B i v wide here t.0 t.1 in
+              let h = single_e B i v wide here t.0 t.1 in
               record { tuple = t.0; sheet_allows = allows_forbidden s f t.0 ∙ t.2; valid = h.0; value = h.1 }
           go (inr q) = absurd (omega (arith, choices, holes.full.1 (λ t k. row_listed t k (all t k (either (is_row s t))))))
             where

@@ -49,15 +49,15 @@ mask_0_accepted : (b : Book) (L : List Entry) (o : List ℕ) → kind o ≡ 1 �
     → refusal b L o ≡ 0
 unfolding first_cause
 mask_0_accepted b L o k n l z =
-    refusal-narrow b L o (rw k n) k ∙ rw (lt-leb (column_count b) (argument o) l, outside-0)
+    refusal-narrow b L o (rw k n) k ∙ rw (lt-leb (column_count b) (argument o) l, outside_0)
   where
-    no-bit : (v : ℕ) → (leb (get_or b.counts (argument o) 0) v && bit v (mask o)) ≡ false
-    no-bit v =
+    no_bit : (v : ℕ) → (leb (get_or b.counts (argument o) 0) v && bit v (mask o)) ≡ false
+    no_bit v =
         ap (λ (t : Bool). leb (get_or b.counts (argument o) 0) v && t) (ap (bit v) z ∙ bit_of_zero v)
         ∙ and_false (leb (get_or b.counts (argument o) 0) v)
 
-    outside-0 : outside b (argument o) (mask o) ≡ false
-    outside-0 = outside_none b (argument o) (mask o) no-bit
+    outside_0 : outside b (argument o) (mask o) ≡ false
+    outside_0 = outside_none b (argument o) (mask o) no_bit
 
 -- the masks do not count
 depth_unmasked : (L : List Entry) → depth_of (unmasked L) ≡ depth_of L
@@ -105,40 +105,40 @@ unfolding status_of
 status_0_i b D e = rw e
 
 module _ (b : Book) (p : WellFormed b) (L : List Entry) where
-  domains-empty-iff : (domains b L ≡ empty_store (column_count b)) ↔ Fails b (allowed b L)
+  domains_empty_iff : (domains b L ≡ empty_store (column_count b)) ↔ Fails b (allowed b L)
   unfolding domains
-  domains-empty-iff = fails_iff b p (allowed b L) (allowed_store b L)
+  domains_empty_iff = fails_iff b p (allowed b L) (allowed_store b L)
 
-  domains-consistent-or-empty : ConsistentStore b (domains b L) ⊎ (domains b L ≡ empty_store (column_count b))
+  domains_consistent_or_empty : ConsistentStore b (domains b L) ⊎ (domains b L ≡ empty_store (column_count b))
   unfolding domains
-  domains-consistent-or-empty = closed_or_empty b p (allowed b L) (allowed_store b L)
+  domains_consistent_or_empty = closed_or_empty b p (allowed b L) (allowed_store b L)
 
-  failed-status-iff : (status_of b (domains b L) ≡ 0) ↔ Fails b (allowed b L)
-  failed-status-iff = (λ e. to (status_0_e b (domains b L) e) domains-consistent-or-empty, from)
+  failed_status_iff : (status_of b (domains b L) ≡ 0) ↔ Fails b (allowed b L)
+  failed_status_iff = (λ e. to (status_0_e b (domains b L) e) domains_consistent_or_empty, from)
     where
       to : all_filled (column_count b) (domains b L) ≡ false
           → ConsistentStore b (domains b L) ⊎ (domains b L ≡ empty_store (column_count b)) → Fails b (allowed b L)
       to e (inl h) = absurd (true≢false (sym (filled_i (column_count b) (domains b L) (domains_store b L) h.filled) ∙ e))
-      to e (inr q) = domains-empty-iff.0 q
+      to e (inr q) = domains_empty_iff.0 q
 
       from : Fails b (allowed b L) → status_of b (domains b L) ≡ 0
       from f =
           status_0_i b (domains b L)
-          (ap (all_filled (column_count b)) (domains-empty-iff.1 f) ∙ empty_unfilled (column_count b) p.some_column)
+          (ap (all_filled (column_count b)) (domains_empty_iff.1 f) ∙ empty_unfilled (column_count b) p.some_column)
 
-  stays-in-domains : (c v : ℕ) → (has (domains b L) c v ≡ true) ↔ Stays b (allowed b L) c v
+  stays_in_domains : (c v : ℕ) → (has (domains b L) c v ≡ true) ↔ Stays b (allowed b L) c v
   unfolding domains
-  stays-in-domains c v = stays_iff b p (allowed b L) (allowed_store b L) c v
+  stays_in_domains c v = stays_iff b p (allowed b L) (allowed_store b L) c v
 
   demand2 : Demand2 b L
   demand2 =
       record {
-        stays = stays-in-domains;
-        failed = failed-status-iff;
-        empty = domains-empty-iff;
+        stays = stays_in_domains;
+        failed = failed_status_iff;
+        empty = domains_empty_iff;
         found = searched_found b p (domains b L) (domains_store b L) (domains_closed b L);
         not_found = searched_none b p (domains b L) (domains_store b L) (domains_closed b L);
-        failed_finish = λ f. searched_empty b p (domains b L) (domains_store b L) (status_0_e b (domains b L) (failed-status-iff.1 f));
+        failed_finish = λ f. searched_empty b p (domains b L) (domains_store b L) (status_0_e b (domains b L) (failed_status_iff.1 f));
         decided_finish = λ e.
             let s = status_2_e b (domains b L) e in
             searched_single b p (domains b L) (domains_store b L) s.0
@@ -148,7 +148,7 @@ module _ (b : Book) (p : WellFormed b) (L : List Entry) where
 -- ---- demand 2 at every answer
 showing_state : (b : Book) → WellFormed b → (L : List Entry) (r : ℕ) → ShowsState b L (showing b L r state_only)
 unfolding showing
-showing_state b p L r = record { stays = stays-in-domains b p L; failed = failed-status-iff b p L; outcome = refl; tries = refl }
+showing_state b p L r = record { stays = stays_in_domains b p L; failed = failed_status_iff b p L; outcome = refl; tries = refl }
 
 -- a finish with the limit n
 module _ (b : Book) (p : WellFormed b) (L : List Entry) (n : ℕ) where
@@ -161,9 +161,9 @@ module _ (b : Book) (p : WellFormed b) (L : List Entry) (n : ℕ) where
   first : (x : List ℕ) → ((searched b (domains b L)).solution ≡ some x) ↔ FirstSolution b (domains b L) x
   first = searched_found b p now (domains_store b L) (domains_closed b L)
 
-  shows-found : (x : List ℕ) → g.solution ≡ some x → g.tries ≤ n → ShowsFinish b L n (showing b L 0 (found x g.tries))
+  shows_found : (x : List ℕ) → g.solution ≡ some x → g.tries ≤ n → ShowsFinish b L n (showing b L 0 (found x g.tries))
   unfolding showing
-  shows-found x e l =
+  shows_found x e l =
       record {
         stopped = (λ z. absurd (omega arith), λ m. absurd (omega arith));
         stopped_zeros = λ z. absurd (omega arith);
@@ -176,12 +176,12 @@ module _ (b : Book) (p : WellFormed b) (L : List Entry) (n : ℕ) where
               not_found = (λ z. absurd (omega arith), λ m. absurd (m.none x ((first x).0 e).solution));
               zeros = λ m. absurd (m.none x ((first x).0 e).solution);
             };
-        failed = failed-status-iff b p L;
+        failed = failed_status_iff b p L;
       }
 
-  shows-none : g.solution ≡ none → g.tries ≤ n → ShowsFinish b L n (showing b L 0 (not_found g.tries))
+  shows_none : g.solution ≡ none → g.tries ≤ n → ShowsFinish b L n (showing b L 0 (not_found g.tries))
   unfolding showing
-  shows-none e l =
+  shows_none e l =
       let m = (searched_none b p now (domains_store b L) (domains_closed b L)).0 e in
       record {
         stopped = (λ z. absurd (omega arith), λ k. absurd (omega arith));
@@ -195,28 +195,28 @@ module _ (b : Book) (p : WellFormed b) (L : List Entry) (n : ℕ) where
               not_found = (λ z. m, λ z. refl);
               zeros = λ z. refl;
             };
-        failed = failed-status-iff b p L;
+        failed = failed_status_iff b p L;
       }
 
-  shows-stopped : n < g.tries → ShowsFinish b L n (showing b L 0 (stopped n))
+  shows_stopped : n < g.tries → ShowsFinish b L n (showing b L 0 (stopped n))
   unfolding showing
-  shows-stopped l =
+  shows_stopped l =
       record {
         stopped = (λ z. l, λ m. refl);
         stopped_zeros = λ z. refl;
         stopped_tries = λ z. refl;
         tries = λ k. absurd (k refl);
         not_stopped = λ k. absurd (k refl);
-        failed = failed-status-iff b p L;
+        failed = failed_status_iff b p L;
       }
 
   showing-finish : ShowsFinish b L n (showing b L 0 (limited n (searched b (domains b L))))
   showing-finish = go (limited_or n g)
     where
       go : LimitedTo n (searched b (domains b L)) → ShowsFinish b L n (showing b L 0 (limited n (searched b (domains b L))))
-      go (is_found x t e s l) = rw (e, l.0) (shows-found x s (rw l.0 at l.1))
-      go (is_none t e s l) = rw (e, l.0) (shows-none s (rw l.0 at l.1))
-      go (is_stopped e l) = rw e (shows-stopped l)
+      go (is_found x t e s l) = rw (e, l.0) (shows_found x s (rw l.0 at l.1))
+      go (is_none t e s l) = rw (e, l.0) (shows_none s (rw l.0 at l.1))
+      go (is_stopped e l) = rw e (shows_stopped l)
 
 -- a narrow to mask 0 allows no value in its column
 mask_0_fails : (b : Book) (L : List Entry) (o : List ℕ) → kind o ≡ 1 → refusal b L o ≡ 0 → mask o ≡ 0 → Fails b (allowed b (push b L o))

@@ -57,8 +57,8 @@ module _ (b : Book) (s : Sheet) (A : List ℕ) (p : WellFormed b) (only : b.shee
   other_left c v e n = kept c v e (support_i A a.bits s c v (λ i l q. absurd (n i l q)))
 
   -- every value of a valid row is left
-  row-left : (i v : ℕ) (k : Support A s i v) (j : ℕ) → j < length s.columns → has left (get_or s.columns j 0) (get_or k.tuple j 0) ≡ true
-  row-left = tuple_left b.counts A left s well a.bits settled
+  row_left : (i v : ℕ) (k : Support A s i v) (j : ℕ) → j < length s.columns → has left (get_or s.columns j 0) (get_or k.tuple j 0) ≡ true
+  row_left = tuple_left b.counts A left s well a.bits settled
 
   -- with a valid row, what is left is consistent
   consistent : (i v : ℕ) → Support A s i v → ConsistentStore b left
@@ -73,28 +73,28 @@ module _ (b : Book) (s : Sheet) (A : List ℕ) (p : WellFormed b) (only : b.shee
       filled : (c : ℕ) → c < column_count b
           → ((i : ℕ) × (i < length s.columns) × (get_or s.columns i 0 ≡ c)) ⊎ ((i : ℕ) → i < length s.columns → get_or s.columns i 0 ≡ c → ⊥)
           → (v : ℕ) × (has left c v ≡ true)
-      filled c l (inl j) = (get_or k.tuple j.0 0, rw j.2 at (row-left i v k j.0 j.1))
+      filled c l (inl j) = (get_or k.tuple j.0 0, rw j.2 at (row_left i v k j.0 j.1))
       filled c l (inr n) = let r = f c l in (r.0, other_left c r.0 r.1 n)
 
   -- with a valid row, what is left stays
-  left-stays : (i v : ℕ) → Support A s i v → (c w : ℕ) → has left c w ≡ true → has (closure b A) c w ≡ true
-  left-stays i v k c w e =
+  left_stays : (i v : ℕ) → Support A s i v → (c w : ℕ) → has left c w ≡ true → has (closure b A) c w ≡ true
+  left_stays i v k c w e =
       (stays_iff b p A a c w).1 (record { store = left; consistent = consistent i v k; within = settled.within; holds = e })
 
   -- a value of a consistent store within A is supported in A
-  stays-own : (c w : ℕ) (h : Stays b A c w) (i : ℕ) → i < length s.columns → (v : ℕ) → has h.store (get_or s.columns i 0) v ≡ true → Support A s i v
-  stays-own c w h i l v e = support_mono h.store A h.within s i v (h.consistent.support s member i l v e)
+  stays_own : (c w : ℕ) (h : Stays b A c w) (i : ℕ) → i < length s.columns → (v : ℕ) → has h.store (get_or s.columns i 0) v ≡ true → Support A s i v
+  stays_own c w h i l v e = support_mono h.store A h.within s i v (h.consistent.support s member i l v e)
 
   -- a valid row carries some value in the first column
-  row-supports : (r : ℕ) → valid_row A s r ≡ true → (v : ℕ) × Support A s 0 v
+  row_supports : (r : ℕ) → valid_row A s r ≡ true → (v : ℕ) × Support A s 0 v
   unfolding valid_row has
-  row-supports r e =
+  row_supports r e =
       let h = in_domain_e _ _ ((valid_e A s.columns (get_or s.rows r []) (and_r (ltb r (length s.rows)) _ e)).1 0 well.some_column) in
       (h.0, (supports_by_rows A s plain 0 h.0 well.some_column).1 (record { row = r; is_valid = e; value = h.2; there = h.1 }))
 
-  one-sheet : OneSheet b s A
+  one_sheet : OneSheet b s A
   unfolding valid_row
-  one-sheet =
+  one_sheet =
       record {
         row = λ r m. (
           λ e. (valid_e A s.columns (get_or s.rows r []) (and_r (ltb r (length s.rows)) _ e)).1,
@@ -103,21 +103,21 @@ module _ (b : Book) (s : Sheet) (A : List ℕ) (p : WellFormed b) (only : b.shee
         own = λ i l v. (
           λ e.
               let h = (stays_iff b p A a (get_or s.columns i 0) v).0 e in
-              (supports_by_rows A s plain i v l).0 (stays-own _ _ h i l v h.holds),
+              (supports_by_rows A s plain i v l).0 (stays_own _ _ h i l v h.holds),
           λ r.
               let k = (supports_by_rows A s plain i v l).1 r in
-              left-stays i v k (get_or s.columns i 0) v (rw k.value at (row-left i v k i l)),
+              left_stays i v k (get_or s.columns i 0) v (rw k.value at (row_left i v k i l)),
         );
         other = λ c n v. (
           λ e.
               let h = (stays_iff b p A a c v).0 e in
               let w = h.consistent.filled (get_or s.columns 0 0) (well.inside 0 well.some_column) in
-              let k = (supports_by_rows A s plain 0 w.0 well.some_column).0 (stays-own c v h 0 well.some_column w.0 w.1) in
+              let k = (supports_by_rows A s plain 0 w.0 well.some_column).0 (stays_own c v h 0 well.some_column w.0 w.1) in
               (h.within.at c v h.holds, (k.row, k.is_valid)),
           λ r.
-              let k = row-supports r.1.0 r.1.1 in left-stays 0 k.0 k.1 c v (other_left c v r.0 n),
+              let k = row_supports r.1.0 r.1.1 in left_stays 0 k.0 k.1 c v (other_left c v r.0 n),
         );
       }
 
 pub one_sheets : OneSheets
-one_sheets = one-sheet
+one_sheets = one_sheet

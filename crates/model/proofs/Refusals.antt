@@ -11,7 +11,7 @@ use Rattle.fields.specs.Bytes.{byte_at}
 use borrow.Author.Tests.{eqb-true, eqb-false, ne_eqb, ltb-false, leb-false}
 use Rattle.model.specs.Masks.{bit}
 use Rattle.model.specs.Books.{Book, column_count}
-use Rattle.model.specs.Orders.{by_kind, narrow_causes, mark_causes, back_causes, finish_causes, otherCauses, kind, argument, mask, try_limit, zero_places, wrong_place, some_wrong, Entry, narrowed, checkpoint, depth, before, Cause, refuse◌if◌, first_cause, outside, refusal, push}
+use Rattle.model.specs.Orders.{by_kind, narrow_causes, mark_causes, back_causes, finish_causes, other_causes, kind, argument, mask, try_limit, zero_places, wrong_place, some_wrong, Entry, narrowed, checkpoint, depth, before, Cause, refuse◌if◌, first_cause, outside, refusal, push}
 use Rattle.model.proofs.Masks.{bit_of_zero}
 use Rattle.model.proofs.Tests.{or_l, or_r, either, any_below_none}
 
@@ -42,15 +42,15 @@ small_cause n true cs l h = l
 small_cause n false cs l h = h
 
 -- where no place must be zero, none is wrong
-none-wrong : (o : List ℕ) → some_wrong 0 o ≡ false
+none_wrong : (o : List ℕ) → some_wrong 0 o ≡ false
 unfolding some_wrong wrong_place
-none-wrong o = any_below_none 8 (wrong_place 0 o) (λ i l. ap (λ (t : Bool). t && not (eqb (byte_at o i) 0)) (bit_of_zero i))
+none_wrong o = any_below_none 8 (wrong_place 0 o) (λ i l. ap (λ (t : Bool). t && not (eqb (byte_at o i) 0)) (bit_of_zero i))
 
 module _ (b : Book) (L : List Entry) (o : List ℕ) where
   -- ---- the refusal of each kind
-  pub refusal-zero : some_wrong (zero_places (kind o)) o ≡ true → refusal b L o ≡ 25
+  pub refusal_zero : some_wrong (zero_places (kind o)) o ≡ true → refusal b L o ≡ 25
   unfolding refusal first_cause
-  refusal-zero e = rw e
+  refusal_zero e = rw e
 
   -- where every byte that must be zero is, the kind's own causes count
   module _ (e : some_wrong (zero_places (kind o)) o ≡ false) where
@@ -73,7 +73,7 @@ module _ (b : Book) (L : List Entry) (o : List ℕ) where
 
   pub refusal_other : (kind o ≡ 1 → ⊥) → (kind o ≡ 2 → ⊥) → (kind o ≡ 3 → ⊥) → (kind o ≡ 4 → ⊥) → refusal b L o ≡ 20
   unfolding refusal first_cause
-  refusal_other p q r s = rw (ne_eqb (kind o) 1 p, ne_eqb (kind o) 2 q, ne_eqb (kind o) 3 r, ne_eqb (kind o) 4 s, none-wrong o)
+  refusal_other p q r s = rw (ne_eqb (kind o) 1 p, ne_eqb (kind o) 2 q, ne_eqb (kind o) 3 r, ne_eqb (kind o) 4 s, none_wrong o)
 
   -- a refusal fits a byte
   pub refusal_small : refusal b L o < 256
@@ -84,7 +84,7 @@ module _ (b : Book) (L : List Entry) (o : List ℕ) where
     where
       go : (eqb (kind o) 1 ≡ true) ⊎ (eqb (kind o) 1 ≡ false) → (eqb (kind o) 2 ≡ true) ⊎ (eqb (kind o) 2 ≡ false)
           → (eqb (kind o) 3 ≡ true) ⊎ (eqb (kind o) 3 ≡ false) → (eqb (kind o) 4 ≡ true) ⊎ (eqb (kind o) 4 ≡ false)
-          → first_cause (by_kind (kind o) (narrow_causes b o) (mark_causes (depth L)) (back_causes (depth L) o) (finish_causes o) otherCauses) < 256
+          → first_cause (by_kind (kind o) (narrow_causes b o) (mark_causes (depth L)) (back_causes (depth L) o) (finish_causes o) other_causes) < 256
       go (inl k) p q r = rw k (small_cause 21 _ _ (omega arith) (small_cause 22 _ _ (omega arith) no_causes))
       go (inr k) (inl p) q r = rw (k, p) (small_cause 23 _ _ (omega arith) no_causes)
       go (inr k) (inr p) (inl q) r = rw (k, p, q) (small_cause 24 _ _ (omega arith) no_causes)

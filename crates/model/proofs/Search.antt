@@ -140,32 +140,32 @@ module _ (b : Book) (p : WellFormed b) (D : List ℕ) (d : IsStore (column_count
   inside = rw d.columns l
 
   module _ (v : ℕ) (h : has D c v ≡ true) where
-    set-store' : IsStore (column_count b) (assign D c v)
-    set-store' = assign_store (column_count b) D c v d l (in_store (column_count b) D d c v h).1
+    set_store' : IsStore (column_count b) (assign D c v)
+    set_store' = assign_store (column_count b) D c v d l (in_store (column_count b) D d c v h).1
 
     pub after_store : IsStore (column_count b) (after b D c v)
     unfolding closure
-    after_store = closure_store (column_count b) (supported b) (supported_mono b) _ set-store'
+    after_store = closure_store (column_count b) (supported b) (supported_mono b) _ set_store'
 
     pub after_closed : closure b (after b D c v) ≡ after b D c v
     unfolding closure
-    after_closed = closure_again (column_count b) (supported b) (supported_mono b) _ set-store'
+    after_closed = closure_again (column_count b) (supported b) (supported_mono b) _ set_store'
 
-    after-within : Within (after b D c v) (assign D c v)
+    after_within : Within (after b D c v) (assign D c v)
     unfolding closure
-    after-within = closure_within (column_count b) (supported b) (supported_mono b) _ set-store'
+    after_within = closure_within (column_count b) (supported b) (supported_mono b) _ set_store'
 
     -- what is left is of D, and v alone in column c
-    after-e : (k u : ℕ) → has (after b D c v) k u ≡ true → (has D k u ≡ true) × (k ≡ c → u ≡ v)
-    after-e k u e = assign_e D c v k u inside h (after-within.at k u e)
+    after_e : (k u : ℕ) → has (after b D c v) k u ≡ true → (has D k u ≡ true) × (k ≡ c → u ≡ v)
+    after_e k u e = assign_e D c v k u inside h (after_within.at k u e)
 
     pub after_inside : Within (after b D c v) D
-    after_inside = record { at = λ k u e. (after-e k u e).0 }
+    after_inside = record { at = λ k u e. (after_e k u e).0 }
 
     -- a solution in D with v in column c is one of the closed store, and the other way round
     pub solution_after : (y : List ℕ) → Solution b D y → get_or y c 0 ≡ v → Solution b (after b D c v) y
     solution_after y f e =
-        solution_closure b p (assign D c v) set-store' y
+        solution_closure b p (assign D c v) set_store' y
         (record {
           size = f.size;
           takes = λ k m. assign_i D c v k (get_or y k 0) inside (f.takes k m) (λ q. ap (λ (j : ℕ). get_or y j 0) q ∙ e);
@@ -175,8 +175,8 @@ module _ (b : Book) (p : WellFormed b) (D : List ℕ) (d : IsStore (column_count
     pub after_solution : (y : List ℕ) → Solution b (after b D c v) y → Solution b D y
     after_solution y f = solution_mono b _ D y after_inside f
 
-    after-value : (y : List ℕ) → Solution b (after b D c v) y → get_or y c 0 ≡ v
-    after-value y f = (after-e c (get_or y c 0) (f.takes c l)).1 refl
+    after_value : (y : List ℕ) → Solution b (after b D c v) y → get_or y c 0 ≡ v
+    after_value y f = (after_e c (get_or y c 0) (f.takes c l)).1 refl
 
     -- setting a column that is not single leaves fewer values
     pub after_fewer : eqb (size (get_or D c 0)) 1 ≡ false → values (column_count b) (after b D c v) < values (column_count b) D
@@ -189,7 +189,7 @@ module _ (b : Book) (p : WellFormed b) (D : List ℕ) (d : IsStore (column_count
         alone q =
             eq-eqb _ 1
             (one_count 32 (λ u. bit u (get_or D c 0)) v (in_store (column_count b) D d c v h).1 h
-            (λ u i. (after-e c u (subst (λ (X : List ℕ). has X c u ≡ true) (sym q) i)).1 refl))
+            (λ u i. (after_e c u (subst (λ (X : List ℕ). has X c u ≡ true) (sym q) i)).1 refl))
 
   -- ---- the values of one column, in rising order
   -- the first solution with v in column c, if D has v there
@@ -203,8 +203,8 @@ module _ (b : Book) (p : WellFormed b) (D : List ℕ) (d : IsStore (column_count
   branch_no v e = rw (e, branch)
 
   -- where all columns below c are single, the first branch with a solution has the first
-  branch-first : ((k : ℕ) → k < c → eqb (size (get_or D k 0)) 1 ≡ true) → first_of 32 branch ≡ first_solution b D
-  branch-first one = sym (go (opt (first_of 32 branch)))
+  branch_first : ((k : ℕ) → k < c → eqb (size (get_or D k 0)) 1 ≡ true) → first_of 32 branch ≡ first_solution b D
+  branch_first one = sym (go (opt (first_of 32 branch)))
     where
       missing : (v : ℕ) → branch v ≡ none → (y : List ℕ) → Solution b D y → get_or y c 0 ≡ v → ⊥
       missing v e y f q =
@@ -226,7 +226,7 @@ module _ (b : Book) (p : WellFormed b) (D : List ℕ) (d : IsStore (column_count
                 column = c;
                 same = λ k m.
                     single_same (column_count b) D d k (one k m) (get_or x k 0) (get_or y k 0) (own.takes k (omega arith)) (g.takes k (omega arith));
-                less = omega (arith, after-value v h x f.solution);
+                less = omega (arith, after_value v h x f.solution);
               })
           pos y g (inr a) (inr r) = f.least y (solution_after v h y g (omega arith))
 
@@ -238,10 +238,10 @@ module _ (b : Book) (p : WellFormed b) (D : List ℕ) (d : IsStore (column_count
                 missing (get_or y c 0) (first_of_none 32 branch e (get_or y c 0) (in_store (column_count b) D d c (get_or y c 0) (f.takes c l)).1) y f refl;
           })
           ∙ sym e
-      go (inr q) = some-case (first_of_some 32 branch q.0 q.1)
+      go (inr q) = some_case (first_of_some 32 branch q.0 q.1)
         where
-          some-case : FirstOf 32 branch q.0 → first_solution b D ≡ first_of 32 branch
-          some-case f = have (either (has D c f.value))
+          some_case : FirstOf 32 branch q.0 → first_solution b D ≡ first_of 32 branch
+          some_case f = have (either (has D c f.value))
             where
               have : (has D c f.value ≡ true) ⊎ (has D c f.value ≡ false) → first_solution b D ≡ first_of 32 branch
               have (inr n) = absurd (never (branch_no f.value n) f.found)
@@ -394,12 +394,12 @@ module _ (b : Book) (p : WellFormed b) where
           absurd (empty_has (column_count b) 0 r.0 (subst (λ (X : List ℕ). has X 0 r.0 ≡ true) (sym s ∙ q) r.1))
 
   -- ---- how deep it may go does not count, where that is deep enough
-  search-depth : (k j : ℕ) (D : List ℕ) → IsStore (column_count b) D → values (column_count b) D < k → values (column_count b) D < j
+  search_depth : (k j : ℕ) (D : List ℕ) → IsStore (column_count b) D → values (column_count b) D < k → values (column_count b) D < j
       → search_from b k D ≡ search_from b j D
-  search-depth zero j D d l m = absurd (not-suc-le-zero l)
-  search-depth (suc k) zero D d l m = absurd (not-suc-le-zero m)
-  search-depth (suc k) (suc j) D d l m =
-      go (λ X x n o. search-depth k j X x n o) (either (all_filled C D)) (either (ltb (open_column C D) C))
+  search_depth zero j D d l m = absurd (not-suc-le-zero l)
+  search_depth (suc k) zero D d l m = absurd (not-suc-le-zero m)
+  search_depth (suc k) (suc j) D d l m =
+      go (λ X x n o. search_depth k j X x n o) (either (all_filled C D)) (either (ltb (open_column C D) C))
     where
       c : ℕ
       c = open_column C D
@@ -417,11 +417,11 @@ module _ (b : Book) (p : WellFormed b) where
           rec (after b D c v) (after_store b p D d c lc v h) (omega arith) (omega arith))
           ∙ sym (search_open b j D e q)
 
-  search-from : (k : ℕ) (D : List ℕ) → IsStore (column_count b) D → closure b D ≡ D → values (column_count b) D < k
+  search_from_lem : (k : ℕ) (D : List ℕ) → IsStore (column_count b) D → closure b D ≡ D → values (column_count b) D < k
       → (search_from b k D).solution ≡ first_solution b D
-  search-from zero D d s l = absurd (not-suc-le-zero l)
-  search-from (suc k) D d s l =
-      go (λ X x t m. search-from k X x t m) (either (all_filled C D)) (either (ltb (open_column C D) C))
+  search_from_lem zero D d s l = absurd (not-suc-le-zero l)
+  search_from_lem (suc k) D d s l =
+      go (λ X x t m. search_from_lem k X x t m) (either (all_filled C D)) (either (ltb (open_column C D) C))
     where
       c : ℕ
       c = open_column C D
@@ -445,7 +445,7 @@ module _ (b : Book) (p : WellFormed b) where
           ap solution (search_open b k D e q)
           ∙ try_each_solution 32 (has D c) g
           ∙ first_of_same 32 (finding (has D c) g) (branch b p D d c lc) (λ v m. each lc v (either (has D c v)))
-          ∙ branch-first b p D d c lc (open_below C D)
+          ∙ branch_first b p D d c lc (open_below C D)
         where
           each : (lc : c < C) (v : ℕ) → (has D c v ≡ true) ⊎ (has D c v ≡ false)
               → finding (has D c) (λ v. search_from b k (after b D c v)) v ≡ branch b p D d c lc v
@@ -463,7 +463,7 @@ module _ (b : Book) (p : WellFormed b) where
       -- the search finds the first solution
       pub search_first : (searched b D).solution ≡ first_solution b D
       unfolding searched
-      search_first = search-from (suc (values (column_count b) D)) D d s (le_refl _)
+      search_first = search_from_lem (suc (values (column_count b) D)) D d s (le_refl _)
 
       pub searched_found : (x : List ℕ) → ((searched b D).solution ≡ some x) ↔ FirstSolution b D x
       searched_found x = let k = found_iff b D d x in (λ e. k.0 (sym search_first ∙ e), λ f. search_first ∙ k.1 f)
@@ -492,5 +492,5 @@ module _ (b : Book) (p : WellFormed b) where
         ∙ try_each_same 32 (has D (open_column C D)) (has D (open_column C D)) (λ v. search_from b (values C D) (after b D (open_column C D) v))
         (λ v. searched b (after b D (open_column C D) v)) (λ v i. refl)
         (λ v i h.
-        search-depth (values C D) (suc (values C (after b D (open_column C D) v))) (after b D (open_column C D) v)
+        search_depth (values C D) (suc (values C (after b D (open_column C D) v))) (after b D (open_column C D) v)
         (after_store b p D d (open_column C D) l v h) (after_fewer b p D d (open_column C D) l v h (open_many C D l)) (le_refl _))

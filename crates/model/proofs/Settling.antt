@@ -34,8 +34,8 @@ module _ (counts D E : List ℕ) (s : Sheet) (p : WellFormedSheet counts s) (d :
       go (inl e) = e
       go (inr e) = absurd (false≢true (sym e ∙ own))
 
-  support-left : (i v : ℕ) → Support D s i v → Support E s i v
-  support-left i v k =
+  support_left : (i v : ℕ) → Support D s i v → Support E s i v
+  support_left i v k =
       record {
         tuple = k.tuple;
         sheet_allows = k.sheet_allows;
@@ -51,15 +51,15 @@ module _ (counts D E : List ℕ) (s : Sheet) (p : WellFormedSheet counts s) (d :
 
   -- what is left has support in what is left
   pub left_support : (i v : ℕ) → i < length s.columns → has E (get_or s.columns i 0) v ≡ true → Support E s i v
-  left_support i v l e = support-left i v (support_e D counts s p i l v (h.left (get_or s.columns i 0) v e))
+  left_support i v l e = support_left i v (support_e D counts s p i l v (h.left (get_or s.columns i 0) v e))
 
   pub settles_seen : ((c : ℕ) → get_or E c 0 < 2 ^ 32) → (c v : ℕ) → has E c v ≡ true → supported_in E c v s ≡ true
   settles_seen z c v e = support_i E z s c v (λ i l q. left_support i v l (rw q e))
 
   -- a value left in one column of the sheet leaves one in each
-  own-filled : (i v : ℕ) → i < length s.columns → has E (get_or s.columns i 0) v ≡ true → (j : ℕ) → j < length s.columns
+  own_filled : (i v : ℕ) → i < length s.columns → has E (get_or s.columns i 0) v ≡ true → (j : ℕ) → j < length s.columns
       → (u : ℕ) × (has E (get_or s.columns j 0) u ≡ true)
-  own-filled i v l e j m = let k = support_e D counts s p i l v (h.left (get_or s.columns i 0) v e) in (get_or k.tuple j 0, tuple_left i v k j m)
+  own_filled i v l e j m = let k = support_e D counts s p i l v (h.left (get_or s.columns i 0) v e) in (get_or k.tuple j 0, tuple_left i v k j m)
 
   -- so no column becomes empty where the first does not
   pub settles_filled : (w : ℕ) → has E (get_or s.columns 0 0) w ≡ true → (c v : ℕ) → has D c v ≡ true → (u : ℕ) × (has E c u ≡ true)
@@ -71,7 +71,7 @@ module _ (counts D E : List ℕ) (s : Sheet) (p : WellFormedSheet counts s) (d :
 
       go : ((i : ℕ) × (i < length s.columns) × (get_or s.columns i 0 ≡ c)) ⊎ ((i : ℕ) → i < length s.columns → get_or s.columns i 0 ≡ c → ⊥)
           → (u : ℕ) × (has E c u ≡ true)
-      go (inl j) = let u = own-filled 0 w p.some_column f j.0 j.1 in (u.0, rw j.2 at u.1)
+      go (inl j) = let u = own_filled 0 w p.some_column f j.0 j.1 in (u.0, rw j.2 at u.1)
       go (inr n) = other n (h.struck c v e)
 
   -- and where the first does, no value of the sheet's columns has support

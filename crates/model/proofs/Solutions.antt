@@ -36,12 +36,12 @@ unfolding forms_rows
 forms_i b x h = all_in_i b.sheets (λ s. allows s (pick x s.columns)) h
 
 module _ (b : Book) (B : List ℕ) (h : IsStore (column_count b) B) where
-  solution-to : (x : List ℕ) → Takes B x → forms_rows b x ≡ true → Solution b B x
-  solution-to x t e =
+  solution_to : (x : List ℕ) → Takes B x → forms_rows b x ≡ true → Solution b B x
+  solution_to x t e =
       record { size = t.size ∙ h.columns; takes = λ c l. t.each c (rw h.columns l); forms = forms_e b x e }
 
-  solution-takes : (x : List ℕ) → Solution b B x → Takes B x
-  solution-takes x f = record { size = f.size ∙ sym h.columns; each = λ c l. f.takes c (rw h.columns at l) }
+  solution_takes : (x : List ℕ) → Solution b B x → Takes B x
+  solution_takes x f = record { size = f.size ∙ sym h.columns; each = λ c l. f.takes c (rw h.columns at l) }
 
   -- found: the first solution
   pub found_iff : (x : List ℕ) → (first_solution b B ≡ some x) ↔ FirstSolution b B x
@@ -49,22 +49,22 @@ module _ (b : Book) (B : List ℕ) (h : IsStore (column_count b) B) where
   found_iff x = (λ e. to ((first_some_iff B h.bits (forms_rows b) x).0 e), λ f. (first_some_iff B h.bits (forms_rows b) x).1 (from f))
     where
       to : First B (forms_rows b) x → FirstSolution b B x
-      to f = record { solution = solution-to x f.takes f.passes; least = λ y g. f.least y (solution-takes y g) (forms_i b y g.forms) }
+      to f = record { solution = solution_to x f.takes f.passes; least = λ y g. f.least y (solution_takes y g) (forms_i b y g.forms) }
 
       from : FirstSolution b B x → First B (forms_rows b) x
       from f =
           record {
-            takes = solution-takes x f.solution;
+            takes = solution_takes x f.solution;
             passes = forms_i b x f.solution.forms;
-            least = λ y t e. f.least y (solution-to y t e);
+            least = λ y t e. f.least y (solution_to y t e);
           }
 
   -- none exactly when there is no solution
   pub none_iff : (first_solution b B ≡ none) ↔ NoSolution b B
   unfolding first_solution
   none_iff = (
-    λ e. record { none = λ x f. (first_none_iff B h.bits (forms_rows b)).0 e x (solution-takes x f) (forms_i b x f.forms) },
-    λ n. (first_none_iff B h.bits (forms_rows b)).1 (λ x t e. n.none x (solution-to x t e)),
+    λ e. record { none = λ x f. (first_none_iff B h.bits (forms_rows b)).0 e x (solution_takes x f) (forms_i b x f.forms) },
+    λ n. (first_none_iff B h.bits (forms_rows b)).1 (λ x t e. n.none x (solution_to x t e)),
   )
 
   -- where there is a solution there is a first

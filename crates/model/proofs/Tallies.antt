@@ -190,14 +190,14 @@ module _ (B : List ℕ) (h : Small B) (n : ℕ) (passes : ℕ → Bool) (cell : 
   abbrev more : ℕ → Bool
   more r = cond (ltb r n) (passes r) true
 
-  abbrev with-one : ℕ → ℕ → ℕ
-  with-one r j = cond (ltb r n) (cell r j) (get_or t j 0)
+  abbrev with_one : ℕ → ℕ → ℕ
+  with_one r j = cond (ltb r n) (cell r j) (get_or t j 0)
 
   abbrev here : ℕ → Bool
   here r = passes r && all_below (length B) (λ j. eqb (cell r j) (get_or t j 0))
 
-  is-listed : (r : ℕ) → r < n → here r ≡ true → Listed B n passes cell t
-  is-listed r l e =
+  is_listed : (r : ℕ) → r < n → here r ≡ true → Listed B n passes cell t
+  is_listed r l e =
       record {
         number = r;
         inside = l;
@@ -206,24 +206,24 @@ module _ (B : List ℕ) (h : Small B) (n : ℕ) (passes : ℕ → Bool) (cell : 
       }
 
   -- a number below n is as before, and n stands for t
-  old : (r : ℕ) → r < n → (more r ≡ passes r) × ((j : ℕ) → with-one r j ≡ cell r j)
+  old : (r : ℕ) → r < n → (more r ≡ passes r) × ((j : ℕ) → with_one r j ≡ cell r j)
   old r l = (rw (lt-ltb r n l), λ j. rw (lt-ltb r n l))
 
-  new : (r : ℕ) → n ≤ r → (j : ℕ) → with-one r j ≡ get_or t j 0
+  new : (r : ℕ) → n ≤ r → (j : ℕ) → with_one r j ≡ get_or t j 0
   new r l j = rw (le-ltb r n l)
 
-  one_more : (Listed B n passes cell t → ⊥) → Distinct B (suc n) more with-one
+  one_more : (Listed B n passes cell t → ⊥) → Distinct B (suc n) more with_one
   one_more none = record { inside = λ r l e j m. inside r e j m (below r n); differ = λ r q l m e f s. differ r q l m e f s (below r n) (below q n) }
     where
-      inside : (r : ℕ) → more r ≡ true → (j : ℕ) → j < length B → (r < n) ⊎ (n ≤ r) → has B j (with-one r j) ≡ true
+      inside : (r : ℕ) → more r ≡ true → (j : ℕ) → j < length B → (r < n) ⊎ (n ≤ r) → has B j (with_one r j) ≡ true
       inside r e j m (inl l) = rw ((old r l).1 j) (d.inside r l (sym (old r l).0 ∙ e) j m)
       inside r e j m (inr l) = rw (new r l j) (k.each j m)
 
-      listed : (r : ℕ) → r < n → more r ≡ true → ((j : ℕ) → j < length B → with-one r j ≡ get_or t j 0) → Listed B n passes cell t
+      listed : (r : ℕ) → r < n → more r ≡ true → ((j : ℕ) → j < length B → with_one r j ≡ get_or t j 0) → Listed B n passes cell t
       listed r l e s = record { number = r; inside = l; chosen = sym (old r l).0 ∙ e; same = λ j m. sym ((old r l).1 j) ∙ s j m }
 
       differ : (r q : ℕ) → r < suc n → q < suc n → more r ≡ true → more q ≡ true
-          → ((j : ℕ) → j < length B → with-one r j ≡ with-one q j) → (r < n) ⊎ (n ≤ r) → (q < n) ⊎ (n ≤ q) → r ≡ q
+          → ((j : ℕ) → j < length B → with_one r j ≡ with_one q j) → (r < n) ⊎ (n ≤ r) → (q < n) ⊎ (n ≤ q) → r ≡ q
       differ r q l m e f s (inl a) (inl b) =
           d.differ r q a b (sym (old r a).0 ∙ e) (sym (old q b).0 ∙ f) (λ j z. sym ((old r a).1 j) ∙ s j z ∙ (old q b).1 j)
       differ r q l m e f s (inl a) (inr b) = absurd (none (listed r a e (λ j z. s j z ∙ new q b j)))
@@ -235,13 +235,13 @@ module _ (B : List ℕ) (h : Small B) (n : ℕ) (passes : ℕ → Bool) (cell : 
   found e = go (either (any_below n here))
     where
       go : (any_below n here ≡ true) ⊎ (any_below n here ≡ false) → Listed B n passes cell t
-      go (inl p) = let r = any_below_e n here p in is-listed r.0 r.1 r.2
+      go (inl p) = let r = any_below_e n here p in is_listed r.0 r.1 r.2
       go (inr p) =
           absurd
           (omega (
             arith,
             e,
-            roomy B h (suc n) more with-one (one_more none),
+            roomy B h (suc n) more with_one (one_more none),
             count_last n more,
             count_same n more passes (λ r l. (old r l).0),
             ap one_if (last (le-ltb n n (omega arith))),

@@ -101,13 +101,13 @@ permits-append (narrowed k n ∷ L) M c v =
     ∙ and_assoc (not (eqb k c) || bit v n) (permits L c v) (permits M c v)
 permits-append (checkpoint ∷ L) M c v = permits-append L M c v
 
-permits-checkpoint : (L : List Entry) (c v : ℕ) → permits (L ++ (checkpoint ∷ [])) c v ≡ permits L c v
+permits_checkpoint : (L : List Entry) (c v : ℕ) → permits (L ++ (checkpoint ∷ [])) c v ≡ permits L c v
 unfolding permits
-permits-checkpoint L c v = permits-append L (checkpoint ∷ []) c v ∙ and_true (permits L c v)
+permits_checkpoint L c v = permits-append L (checkpoint ∷ []) c v ∙ and_true (permits L c v)
 
-permits-narrowed : (L : List Entry) (c m k v : ℕ) → permits (L ++ (narrowed c m ∷ [])) k v ≡ (permits L k v && (not (eqb c k) || bit v m))
+permits_narrowed : (L : List Entry) (c m k v : ℕ) → permits (L ++ (narrowed c m ∷ [])) k v ≡ (permits L k v && (not (eqb c k) || bit v m))
 unfolding permits
-permits-narrowed L c m k v =
+permits_narrowed L c m k v =
     permits-append L (narrowed c m ∷ []) k v ∙ ap (λ (t : Bool). permits L k v && t) (and_true (not (eqb c k) || bit v m))
 
 -- ---- allowed values and current domains
@@ -133,14 +133,14 @@ domains_mono b L M w =
     closure_mono (column_count b) (supported b) (supported_mono b) (allowed b L) (allowed b M) (allowed_store b L) (allowed_store b M) w
 
 -- a checkpoint changes no allowed value and no domain
-pub allowed-checkpoint : (b : Book) (L : List Entry) → allowed b (L ++ (checkpoint ∷ [])) ≡ allowed b L
+pub allowed_checkpoint : (b : Book) (L : List Entry) → allowed b (L ++ (checkpoint ∷ [])) ≡ allowed b L
 unfolding allowed
-allowed-checkpoint b L =
-    store_of_same (column_count b) _ _ (λ c v p q. ap (λ (t : Bool). ltb v (get_or b.counts c 0) && t) (permits-checkpoint L c v))
+allowed_checkpoint b L =
+    store_of_same (column_count b) _ _ (λ c v p q. ap (λ (t : Bool). ltb v (get_or b.counts c 0) && t) (permits_checkpoint L c v))
 
-pub domains-checkpoint : (b : Book) (L : List Entry) → domains b (L ++ (checkpoint ∷ [])) ≡ domains b L
+pub domains_checkpoint : (b : Book) (L : List Entry) → domains b (L ++ (checkpoint ∷ [])) ≡ domains b L
 unfolding domains
-domains-checkpoint b L = ap (closure b) (allowed-checkpoint b L)
+domains_checkpoint b L = ap (closure b) (allowed_checkpoint b L)
 
 -- ---- a narrow
 module _ (b : Book) (L : List Entry) (c m : ℕ) where
@@ -150,26 +150,26 @@ module _ (b : Book) (L : List Entry) (c m : ℕ) where
   narrowed_e k v e =
       let r = has_e (column_count b) (λ c' v'. ltb v' (get_or b.counts c' 0) && permits (L ++ (narrowed c m ∷ [])) c' v') k v e in
       let p = and_r (ltb v (get_or b.counts k 0)) _ r.2 in
-      let q : (permits L k v && (not (eqb c k) || bit v m)) ≡ true = sym (permits-narrowed L c m k v) ∙ p in (
+      let q : (permits L k v && (not (eqb c k) || bit v m)) ≡ true = sym (permits_narrowed L c m k v) ∙ p in (
         has_i (column_count b) (λ c' v'. ltb v' (get_or b.counts c' 0) && permits L c' v') k v r.0 r.1
             (and_i (and_l (ltb v (get_or b.counts k 0)) _ r.2) (and_l (permits L k v) _ q)),
         and_r (permits L k v) _ q,
       )
 
-  narrowed-i : (k v : ℕ) → has (allowed b L) k v ≡ true → (not (eqb c k) || bit v m) ≡ true
+  narrowed_i : (k v : ℕ) → has (allowed b L) k v ≡ true → (not (eqb c k) || bit v m) ≡ true
       → has (allowed b (L ++ (narrowed c m ∷ []))) k v ≡ true
   unfolding allowed
-  narrowed-i k v e t =
+  narrowed_i k v e t =
       let r = has_e (column_count b) (λ c' v'. ltb v' (get_or b.counts c' 0) && permits L c' v') k v e in
       has_i (column_count b) (λ c' v'. ltb v' (get_or b.counts c' 0) && permits (L ++ (narrowed c m ∷ [])) c' v') k v r.0 r.1
       (and_i (and_l (ltb v (get_or b.counts k 0)) _ r.2)
-      (permits-narrowed L c m k v ∙ and_i (and_r (ltb v (get_or b.counts k 0)) _ r.2) t))
+      (permits_narrowed L c m k v ∙ and_i (and_r (ltb v (get_or b.counts k 0)) _ r.2) t))
 
   -- the current domains met with the mask lie between the closure of the longer trail's allowed values and those values
-  narrow-between : (D : List ℕ) → ((k v : ℕ) → has D k v ≡ (has (domains b L) k v && (not (eqb c k) || bit v m)))
+  narrow_between : (D : List ℕ) → ((k v : ℕ) → has D k v ≡ (has (domains b L) k v && (not (eqb c k) || bit v m)))
       → Between (column_count b) (supported b) (allowed b (L ++ (narrowed c m ∷ []))) D
   unfolding domains closure
-  narrow-between D met = record { lower = record { at = low }; upper = record { at = up } }
+  narrow_between D met = record { lower = record { at = low }; upper = record { at = up } }
     where
       low : (k v : ℕ) → has (domains b (L ++ (narrowed c m ∷ []))) k v ≡ true → has D k v ≡ true
       low k v e =
@@ -180,7 +180,7 @@ module _ (b : Book) (L : List Entry) (c m : ℕ) where
       up : (k v : ℕ) → has D k v ≡ true → has (allowed b (L ++ (narrowed c m ∷ []))) k v ≡ true
       up k v e =
           let r : (has (domains b L) k v && (not (eqb c k) || bit v m)) ≡ true = sym (met k v) ∙ e in
-          narrowed-i k v ((domains_within b L).at k v (and_l (has (domains b L) k v) _ r)) (and_r (has (domains b L) k v) _ r)
+          narrowed_i k v ((domains_within b L).at k v (and_l (has (domains b L) k v) _ r)) (and_r (has (domains b L) k v) _ r)
 
   -- "An order starts from the state that the last one left": meet one current domain with the mask, and close
   pub narrow-domains : c < column_count b → closure b (meet (domains b L) c m) ≡ domains b (L ++ (narrowed c m ∷ []))
@@ -188,4 +188,4 @@ module _ (b : Book) (L : List Entry) (c m : ℕ) where
   narrow-domains l =
       between_same (column_count b) (supported b) (supported_mono b) (allowed b (L ++ (narrowed c m ∷ []))) (allowed_store b _)
       (meet (domains b L) c m) (meet_store (column_count b) (domains b L) c m (domains_store b L) l)
-      (narrow-between (meet (domains b L) c m) (λ k v. meet-has (domains b L) c m k v (rw (domains_store b L).columns l)))
+      (narrow_between (meet (domains b L) c m) (λ k v. meet-has (domains b L) c m k v (rw (domains_store b L).columns l)))

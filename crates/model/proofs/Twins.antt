@@ -28,28 +28,28 @@ use Rattle.model.proofs.Trails.{allowed_store, domains_store, domains_within}
 
 -- ---- what is allowed is below V, so only combinations are met
 module _ (b : Book) (L : List Entry) where
-  allowed-below : (c v : ℕ) → has (allowed b L) c v ≡ true → v < get_or b.counts c 0
+  allowed_below : (c v : ℕ) → has (allowed b L) c v ≡ true → v < get_or b.counts c 0
   unfolding allowed
-  allowed-below c v e =
+  allowed_below c v e =
       ltb-true v (get_or b.counts c 0) (and_l _ _ (has_e (column_count b) (λ c v. ltb v (get_or b.counts c 0) && permits L c v) c v e).2)
 
   -- a choice from the domains of these columns
-  choice-combination : (B : List ℕ) → Within B (allowed b L) → (cs x : List ℕ) → Takes (pick B cs) x → Combination b.counts cs x
-  choice-combination B w cs x t =
+  choice_combination : (B : List ℕ) → Within B (allowed b L) → (cs x : List ℕ) → Takes (pick B cs) x → Combination b.counts cs x
+  choice_combination B w cs x t =
       record {
         size = t.size ∙ length-pick B cs;
         each = λ i l.
-            allowed-below (get_or cs i 0) (get_or x i 0) (w.at _ _ (pick_e B cs i (get_or x i 0) (t.each i (rw (length-pick B cs) l))).1);
+            allowed_below (get_or cs i 0) (get_or x i 0) (w.at _ _ (pick_e B cs i (get_or x i 0) (t.each i (rw (length-pick B cs) l))).1);
       }
 
   -- ---- a sheet and its twin
-  supportedIn-twin : (s t : Sheet) → TwinSheets b.counts s t → (B : List ℕ) → Within B (allowed b L) → (c v : ℕ)
+  supported_in_twin : (s t : Sheet) → TwinSheets b.counts s t → (B : List ℕ) → Within B (allowed b L) → (c v : ℕ)
       → supported_in B c v s ≡ supported_in B c v t
   unfolding supported_in
-  supportedIn-twin s t h B w c v =
+  supported_in_twin s t h B w c v =
       ap (λ (u : Bool). not (any_in s.columns (eqb c)) || u)
       (any_choice_same (pick B s.columns) (λ x. allows s x && supports s.columns x c v) (λ x. allows t x && supports s.columns x c v)
-      (λ x k. ap (λ (u : Bool). u && supports s.columns x c v) (h.same_allowed x (choice-combination B w s.columns x k))))
+      (λ x k. ap (λ (u : Bool). u && supports s.columns x c v) (h.same_allowed x (choice_combination B w s.columns x k))))
       ∙ ap (λ (cs : List ℕ). not (any_in cs (eqb c)) || any_choice (pick B cs) (λ x. allows t x && supports cs x c v)) h.same_columns
 
 -- ---- a book b, and its twin with the sheets ts
@@ -58,23 +58,23 @@ twin b ts = record { counts = b.counts; sheets = ts }
 
 module _ (b : Book) (p : WellFormed b) (ts : List Sheet) (h : Twins b (twin b ts)) where
   -- of what is allowed, which has no value from V on
-  closure-twin : (L : List Entry) (A : List ℕ) → IsStore (column_count b) A → Within A (allowed b L) → closure b A ≡ closure (twin b ts) A
+  closure_twin : (L : List Entry) (A : List ℕ) → IsStore (column_count b) A → Within A (allowed b L) → closure b A ≡ closure (twin b ts) A
   unfolding closure supported
-  closure-twin L A a inside =
+  closure_twin L A a inside =
       closure_same (column_count b) (supported b) (supported (twin b ts)) (supported_mono b) (supported_mono (twin b ts)) A a
       (λ B w c v.
       all_in_same _ b.sheets ts (supported_in B c v) h.as_many
-      (λ s l. supportedIn-twin b L (sheet_at b s) (sheet_at (twin b ts) s) (h.sheets s l) B (within_trans w inside) c v))
+      (λ s l. supported_in_twin b L (sheet_at b s) (sheet_at (twin b ts) s) (h.sheets s l) B (within_trans w inside) c v))
 
-  domains-twin : (L : List Entry) → domains b L ≡ domains (twin b ts) L
+  domains_twin : (L : List Entry) → domains b L ≡ domains (twin b ts) L
   unfolding domains allowed
-  domains-twin L = closure-twin L (allowed b L) (allowed_store b L) (within_refl (allowed b L))
+  domains_twin L = closure_twin L (allowed b L) (allowed_store b L) (within_refl (allowed b L))
 
   -- ---- the search: every store that it meets is closed alike
-  search-twin : (L : List Entry) (k : ℕ) (D : List ℕ) → IsStore (column_count b) D → Within D (allowed b L) → search_from b k D ≡ search_from (twin b ts) k D
+  search_twin : (L : List Entry) (k : ℕ) (D : List ℕ) → IsStore (column_count b) D → Within D (allowed b L) → search_from b k D ≡ search_from (twin b ts) k D
   unfolding search_from
-  search-twin L zero D d w = refl
-  search-twin L (suc k) D d w = go (λ X x y. search-twin L k X x y) (either (all_filled (column_count b) D)) (either (ltb (open_column (column_count b) D) (column_count b)))
+  search_twin L zero D d w = refl
+  search_twin L (suc k) D d w = go (λ X x y. search_twin L k X x y) (either (all_filled (column_count b) D)) (either (ltb (open_column (column_count b) D) (column_count b)))
     where
       C : ℕ
       C = column_count b
@@ -95,72 +95,72 @@ module _ (b : Book) (p : WellFormed b) (ts : List Sheet) (h : Twins b (twin b ts
           (λ v i s.
           rec (after b D c v) (after_store b p D d c l v s) (within_trans (after_inside b p D d c l v s) w)
           ∙ ap (search_from (twin b ts) k)
-          (closure-twin L (assign D c v) (assign_store C D c v d l i)
+          (closure_twin L (assign D c v) (assign_store C D c v d l i)
           (record { at = λ j u z. w.at j u (assign_e D c v j u (rw d.columns l) s z).0 })))
           ∙ sym (search_open (twin b ts) k D e q)
 
-  searched-twin : (L : List Entry) → searched b (domains b L) ≡ searched (twin b ts) (domains (twin b ts) L)
+  searched_twin : (L : List Entry) → searched b (domains b L) ≡ searched (twin b ts) (domains (twin b ts) L)
   unfolding searched
-  searched-twin L =
-      search-twin L (suc (values (column_count b) (domains b L))) (domains b L) (domains_store b L) (domains_within b L)
-      ∙ ap (searched (twin b ts)) (domains-twin L)
+  searched_twin L =
+      search_twin L (suc (values (column_count b) (domains b L))) (domains b L) (domains_store b L) (domains_within b L)
+      ∙ ap (searched (twin b ts)) (domains_twin L)
 
   -- of the current domains, which have no value from V on
-  subsumed-twin : (L : List Entry) (s : ℕ) → s < length b.sheets → subsumed (domains b L) (sheet_at b s) ≡ subsumed (domains b L) (sheet_at (twin b ts) s)
+  subsumed_twin : (L : List Entry) (s : ℕ) → s < length b.sheets → subsumed (domains b L) (sheet_at b s) ≡ subsumed (domains b L) (sheet_at (twin b ts) s)
   unfolding subsumed
-  subsumed-twin L s l =
+  subsumed_twin L s l =
       let k = h.sheets s l in
       every_choice_same (pick (domains b L) (sheet_at b s).columns) (allows (sheet_at b s)) (allows (sheet_at (twin b ts) s))
-      (λ x t. k.same_allowed x (choice-combination b L (domains b L) (domains_within b L) (sheet_at b s).columns x t))
+      (λ x t. k.same_allowed x (choice_combination b L (domains b L) (domains_within b L) (sheet_at b s).columns x t))
       ∙ ap (λ (cs : List ℕ). every_choice (pick (domains b L) cs) (allows (sheet_at (twin b ts) s))) k.same_columns
 
-  done-twin : (L : List Entry) → done_of b (domains b L) ≡ done_of (twin b ts) (domains b L)
+  done_twin : (L : List Entry) → done_of b (domains b L) ≡ done_of (twin b ts) (domains b L)
   unfolding done_of
-  done-twin L =
+  done_twin L =
       ap (λ (n : ℕ). cond (all_filled (column_count b) (domains b L)) n 0)
-      (mask_of_same (length b.sheets) (λ s. subsumed (domains b L) (sheet_at b s)) (λ s. subsumed (domains b L) (sheet_at (twin b ts) s)) (subsumed-twin L)
+      (mask_of_same (length b.sheets) (λ s. subsumed (domains b L) (sheet_at b s)) (λ s. subsumed (domains b L) (sheet_at (twin b ts) s)) (subsumed_twin L)
       ∙ ap (λ (n : ℕ). mask_of n (λ s. subsumed (domains b L) (sheet_at (twin b ts) s))) h.as_many)
 
   -- ---- answers
-  showing-twin : (L : List Entry) (r : ℕ) (f : Outcome) → showing b L r f ≡ showing (twin b ts) L r f
+  showing_twin : (L : List Entry) (r : ℕ) (f : Outcome) → showing b L r f ≡ showing (twin b ts) L r f
   unfolding showing status_of assigned
-  showing-twin L r f =
+  showing_twin L r f =
       ap₂
       (λ (D : List ℕ) (n : ℕ).
       record { refused = r; status = status_of b D; depth = depth L; outcome = outcome_number f; done = n; tries = outcome_tries f; shown = outcome_masks (column_count b) D f })
-      (domains-twin L) (done-twin L ∙ ap (done_of (twin b ts)) (domains-twin L))
+      (domains_twin L) (done_twin L ∙ ap (done_of (twin b ts)) (domains_twin L))
 
-  outcome-twin : (L : List Entry) (o : List ℕ) → outcome b L o ≡ outcome (twin b ts) L o
+  outcome_twin : (L : List Entry) (o : List ℕ) → outcome b L o ≡ outcome (twin b ts) L o
   unfolding outcome refusal outside
-  outcome-twin L o =
+  outcome_twin L o =
       ap
       (λ (g : Searched). cond (is_accepted b L o) (by_kind (kind o) state_only state_only state_only (limited (try_limit o) g) state_only) state_only)
-      (searched-twin L)
+      (searched_twin L)
 
-  answer-twin : (L : List Entry) (o : List ℕ) → answer b L o ≡ answer (twin b ts) L o
+  answer_twin : (L : List Entry) (o : List ℕ) → answer b L o ≡ answer (twin b ts) L o
   unfolding answer push refusal outside
-  answer-twin L o = showing-twin (push b L o) (refusal b L o) (outcome b L o) ∙ ap (showing (twin b ts) (push b L o) (refusal b L o)) (outcome-twin L o)
+  answer_twin L o = showing_twin (push b L o) (refusal b L o) (outcome b L o) ∙ ap (showing (twin b ts) (push b L o) (refusal b L o)) (outcome_twin L o)
 
   -- refusals and trails go by the columns alone
-  answers-twin : (os : List (List ℕ)) (L : List Entry) → answers_from b L os ≡ answers_from (twin b ts) L os
+  answers_twin : (os : List (List ℕ)) (L : List Entry) → answers_from b L os ≡ answers_from (twin b ts) L os
   unfolding answers_from push refusal outside
-  answers-twin [] L = refl
-  answers-twin (o ∷ os) L = ap₂ (λ (a : Answer) (l : List Answer). a ∷ l) (answer-twin L o) (answers-twin os (push b L o))
+  answers_twin [] L = refl
+  answers_twin (o ∷ os) L = ap₂ (λ (a : Answer) (l : List Answer). a ∷ l) (answer_twin L o) (answers_twin os (push b L o))
 
-  accepted-twin : (os : List (List ℕ)) (L : List Entry) → accepted_from b L os ≡ accepted_from (twin b ts) L os
+  accepted_twin : (os : List (List ℕ)) (L : List Entry) → accepted_from b L os ≡ accepted_from (twin b ts) L os
   unfolding accepted_from push refusal outside
-  accepted-twin [] L = refl
-  accepted-twin (o ∷ os) L = ap (λ (n : ℕ). one_if (is_accepted b L o) + n) (accepted-twin os (push b L o))
+  accepted_twin [] L = refl
+  accepted_twin (o ∷ os) L = ap (λ (n : ℕ). one_if (is_accepted b L o) + n) (accepted_twin os (push b L o))
 
 -- the claim of specs/Twins.antt
 pub twins_answer : TwinsAnswer
 twins_answer b c p h =
     record {
       every = λ os.
-          ap₂ (λ (a : Answer) (l : List Answer). a ∷ l) (showing-twin b p c.sheets k [] 0 state_only) (answers-twin b p c.sheets k os [])
+          ap₂ (λ (a : Answer) (l : List Answer). a ∷ l) (showing_twin b p c.sheets k [] 0 state_only) (answers_twin b p c.sheets k os [])
           ∙ ap (λ (counts : List ℕ). answers (record { counts = counts; sheets = c.sheets }) os) h.same_counts;
       accepted = λ os.
-          accepted-twin b p c.sheets k os [] ∙ ap (λ (counts : List ℕ). accepted_count (record { counts = counts; sheets = c.sheets }) os) h.same_counts;
+          accepted_twin b p c.sheets k os [] ∙ ap (λ (counts : List ℕ). accepted_count (record { counts = counts; sheets = c.sheets }) os) h.same_counts;
     }
   where
     k : Twins b (twin b c.sheets)

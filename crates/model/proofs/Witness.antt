@@ -81,7 +81,7 @@ sheet_well_formed counts s e1 =
       row_rises = λ f r l.
           lower_e _ _
           (all_below_e (length s.rows - 1) (λ r. lower_test (get_or s.rows r []) (get_or s.rows (suc r) []))
-          (rises-then f (and_r (all_below (length s.rows) (λ r. all_below (length s.columns) (cell_test counts s r))) _ e7)) r (omega arith));
+          (rises_then f (and_r (all_below (length s.rows) (λ r. all_below (length s.columns) (cell_test counts s r))) _ e7)) r (omega arith));
     }
   where
     row_cell : (r i : ℕ) → cell_test counts s r i ≡ true
@@ -90,8 +90,8 @@ sheet_well_formed counts s e1 =
         ⊎_elim (λ q. inl (not-true s.forbids (and_l _ _ q), and_r (not s.forbids) _ q)) (λ l. inr (ltb-true _ _ l))
         (or_e (not s.forbids && is_any (get_or (get_or s.rows r []) i 0)) _ e)
 
-    rises-then : {t : Bool} → s.forbids ≡ true → (not s.forbids || t) ≡ true → t ≡ true
-    rises-then f e = rw f at e
+    rises_then : {t : Bool} → s.forbids ≡ true → (not s.forbids || t) ≡ true → t ≡ true
+    rises_then f e = rw f at e
 
 book_test : Book → Bool
 book_test b =

@@ -20,16 +20,16 @@ use Rattle.model.proofs.Twins.{twins_answer}
 
 -- ---- what a flattened list holds
 module _ {A B : Type 0} (f : A → List B) where
-  flat-i : (l : List A) (x : A) (y : B) → Memᴰ x l → Memᴰ y (f x) → Memᴰ y (flat_map f l)
+  flat_i : (l : List A) (x : A) (y : B) → Memᴰ x l → Memᴰ y (f x) → Memᴰ y (flat_map f l)
   unfolding flat_map
-  flat-i [] x y k m = elim k [ ]
-  flat-i (z ∷ l) x y (Memᴰ.head e) m = Memᴰ.append_left (flat_map f l) (subst (λ (u : A). Memᴰ y (f u)) e m)
-  flat-i (z ∷ l) x y (Memᴰ.tail k) m = Memᴰ.append_right (f z) (flat-i l x y k m)
+  flat_i [] x y k m = elim k [ ]
+  flat_i (z ∷ l) x y (Memᴰ.head e) m = Memᴰ.append_left (flat_map f l) (subst (λ (u : A). Memᴰ y (f u)) e m)
+  flat_i (z ∷ l) x y (Memᴰ.tail k) m = Memᴰ.append_right (f z) (flat_i l x y k m)
 
-  flat-e : (l : List A) (y : B) → Memᴰ y (flat_map f l) → (x : A) × Memᴰ x l × Memᴰ y (f x)
+  flat_e : (l : List A) (y : B) → Memᴰ y (flat_map f l) → (x : A) × Memᴰ x l × Memᴰ y (f x)
   unfolding flat_map
-  flat-e [] y m = absurd (Memᴰ.not-nil m)
-  flat-e (z ∷ l) y m = go (Memᴰ.append_cases (f z) m) (flat-e l y)
+  flat_e [] y m = absurd (Memᴰ.not-nil m)
+  flat_e (z ∷ l) y m = go (Memᴰ.append_cases (f z) m) (flat_e l y)
     where
       go : Memᴰ y (f z) ⊎ Memᴰ y (flat_map f l) → (Memᴰ y (flat_map f l) → (x : A) × Memᴰ x l × Memᴰ y (f x))
           → (x : A) × Memᴰ x (z ∷ l) × Memᴰ y (f x)
@@ -76,7 +76,7 @@ row_i counts [] r (v ∷ t) e k = absurd (omega (arith, k.size))
 row_i counts (c ∷ cs) r [] e k = absurd (omega (arith, k.size))
 row_i counts (c ∷ cs) [] (v ∷ t) e k = absurd (false≢true e)
 row_i counts (c ∷ cs) (x ∷ r) (v ∷ t) e k =
-    flat-i (λ u. map (λ y. u ∷ y) (written_row counts cs r)) (written_cell (get_or counts c 0) x) v (v ∷ t)
+    flat_i (λ u. map (λ y. u ∷ y) (written_row counts cs r)) (written_cell (get_or counts c 0) x) v (v ∷ t)
     (cell_i (get_or counts c 0) x v (and_l (matches x v) _ e) (k.each 0 (zero-lt-suc (length cs))))
     (Memᴰ.map (λ y. v ∷ y)
     (row_i counts cs r t (and_r (matches x v) _ e) (record { size = omega (arith, k.size); each = λ i l. k.each (suc i) (omega arith) })))
@@ -89,7 +89,7 @@ row_e counts [] [] t n h m = rw (Memᴰ.eq_of_singleton m) (refl, combination_ni
 row_e counts [] (x ∷ r) t n h m = absurd (omega arith)
 row_e counts (c ∷ cs) [] t n h m = absurd (omega arith)
 row_e counts (c ∷ cs) (x ∷ r) t n h m =
-    let q = flat-e (λ u. map (λ y. u ∷ y) (written_row counts cs r)) (written_cell (get_or counts c 0) x) t m in
+    let q = flat_e (λ u. map (λ y. u ∷ y) (written_row counts cs r)) (written_cell (get_or counts c 0) x) t m in
     let u = Memᴰ.of_map (λ y. q.0 ∷ y) (written_row counts cs r) q.2 in
     let v = cell_e (get_or counts c 0) x q.0 (h 0 (zero-lt-suc (length cs))) q.1 in
     let w = row_e counts cs r u.0 (omega arith) (λ i l. h (suc i) (omega arith)) u.1 in
@@ -118,17 +118,17 @@ module _ (counts : List ℕ) (s : Sheet) (p : WellFormedSheet counts s) (f : s.f
       (λ j l. rw i.2 at (⊎_elim (λ q. inl q.1) (λ q. inr q) (p.row_value i.0 j i.1 l))) k
 
   -- its written-out rows are combinations
-  written-plain : (t : List ℕ) → Memᴰ t written.rows → Combination counts s.columns t
-  written-plain t m = let q = flat-e (written_row counts s.columns) s.rows t m in (row_written q.0 t q.1 q.2).1
+  written_plain : (t : List ℕ) → Memᴰ t written.rows → Combination counts s.columns t
+  written_plain t m = let q = flat_e (written_row counts s.columns) s.rows t m in (row_written q.0 t q.1 q.2).1
 
-  written-twin : ((c : ℕ) → c < length counts → get_or counts c 0 ≤ 32) → TwinSheets counts s written
-  written-twin few = record { same_columns = refl; same_allowed = λ x k. same_test _ _ (to x k) (from x) }
+  written_twin : ((c : ℕ) → c < length counts → get_or counts c 0 ≤ 32) → TwinSheets counts s written
+  written_twin few = record { same_columns = refl; same_allowed = λ x k. same_test _ _ (to x k) (from x) }
     where
       to : (x : List ℕ) → Combination counts s.columns x → allows s x ≡ true → allows written x ≡ true
       to x k e =
           let r = allows_e s f x e in
           allows_i written refl x x
-          (flat-i (written_row counts s.columns) s.rows r.0 x r.1 (row_i counts s.columns r.0 x r.2 k)) (row_self x)
+          (flat_i (written_row counts s.columns) s.rows r.0 x r.1 (row_i counts s.columns r.0 x r.2 k)) (row_self x)
 
       not_any : (t : List ℕ) → Combination counts s.columns t → (i : ℕ) → i < length t → is_any (get_or t i 0) ≡ false
       not_any t k i l =
@@ -138,32 +138,32 @@ module _ (counts : List ℕ) (s : Sheet) (p : WellFormedSheet counts s) (f : s.f
       from : (x : List ℕ) → allows written x ≡ true → allows s x ≡ true
       from x e =
           let t = allows_e written refl x e in
-          let r = flat-e (written_row counts s.columns) s.rows t.0 t.1 in
+          let r = flat_e (written_row counts s.columns) s.rows t.0 t.1 in
           let w = row_written r.0 t.0 r.1 r.2 in
           allows_i s f r.0 x r.1 (ap (row_matches r.0) (sym (row_plain t.0 x (not_any t.0 w.1) t.2)) ∙ w.0)
 
   -- "k values, each below its column's V"
-  written-formed : length written.rows ≤ 508 → WellFormedSheet counts written
-  written-formed few =
+  written_formed : length written.rows ≤ 508 → WellFormedSheet counts written
+  written_formed few =
       record {
         some_column = p.some_column;
         few_columns = p.few_columns;
         rising = p.rising;
         inside = p.inside;
         few_rows = few;
-        row_size = λ r l. (written-plain _ (in_list [] written.rows r l)).size;
-        row_value = λ r i l m. inr ((written-plain _ (in_list [] written.rows r l)).each i m);
+        row_size = λ r l. (written_plain _ (in_list [] written.rows r l)).size;
+        row_value = λ r i l m. inr ((written_plain _ (in_list [] written.rows r l)).each i m);
         row_rises = λ e. absurd (false≢true e);
       }
 
 -- ---- a sheet of either kind
 module _ (counts : List ℕ) (s : Sheet) (p : WellFormedSheet counts s) where
-  sheet-twin : ((c : ℕ) → c < length counts → get_or counts c 0 ≤ 32) → TwinSheets counts s (written_sheet counts s)
-  sheet-twin few = go (either s.forbids)
+  sheet_twin : ((c : ℕ) → c < length counts → get_or counts c 0 ≤ 32) → TwinSheets counts s (written_sheet counts s)
+  sheet_twin few = go (either s.forbids)
     where
       go : (s.forbids ≡ true) ⊎ (s.forbids ≡ false) → TwinSheets counts s (written_sheet counts s)
       go (inl e) = rw (forbidden_same counts s e) (record { same_columns = refl; same_allowed = λ x k. refl })
-      go (inr e) = rw (written_same counts s p e) (written-twin counts s p e few)
+      go (inr e) = rw (written_same counts s p e) (written_twin counts s p e few)
 
   sheet_plain : (t : List ℕ) → Memᴰ t (written_sheet counts s).rows → Combination counts (written_sheet counts s).columns t
   sheet_plain = go (either s.forbids)
@@ -179,14 +179,14 @@ module _ (counts : List ℕ) (s : Sheet) (p : WellFormedSheet counts s) where
           (λ t m.
           let i = at_place [] t s.rows m in
           rw (← i.2) (record { size = p.row_size i.0 i.1; each = λ j l. cell e i.0 j i.1 l }))
-      go (inr e) = rw (written_same counts s p e) (written-plain counts s p e)
+      go (inr e) = rw (written_same counts s p e) (written_plain counts s p e)
 
-  sheet-formed : length (written_sheet counts s).rows ≤ 508 → WellFormedSheet counts (written_sheet counts s)
-  sheet-formed = go (either s.forbids)
+  sheet_formed : length (written_sheet counts s).rows ≤ 508 → WellFormedSheet counts (written_sheet counts s)
+  sheet_formed = go (either s.forbids)
     where
       go : (s.forbids ≡ true) ⊎ (s.forbids ≡ false) → length (written_sheet counts s).rows ≤ 508 → WellFormedSheet counts (written_sheet counts s)
       go (inl e) = rw (forbidden_same counts s e) (λ l. p)
-      go (inr e) = rw (written_same counts s p e) (written-formed counts s p e)
+      go (inr e) = rw (written_same counts s p e) (written_formed counts s p e)
 
 -- ---- the book
 pub written_out_twins : WrittenOutTwins
@@ -197,7 +197,7 @@ written_out_twins b p =
       as_many = sym (length-map b.sheets (written_sheet b.counts));
       sheets = λ s l.
           rw (get_or-map (written_sheet b.counts) b.sheets s no_sheet)
-          (sheet-twin b.counts (sheet_at b s) (p.sheet (sheet_at b s) (in_list _ b.sheets s l)) p.few_values);
+          (sheet_twin b.counts (sheet_at b s) (p.sheet (sheet_at b s) (in_list _ b.sheets s l)) p.few_values);
     }
 
 pub written_out_answers : WrittenOutAnswers
@@ -224,5 +224,5 @@ written_out_formed b p few =
       few_values = p.few_values;
       sheet = λ s m.
           let q = Memᴰ.of_map (written_sheet b.counts) b.sheets m in
-          rw (← q.2) (sheet-formed b.counts q.0 (p.sheet q.0 q.1) (rw q.2 (few s m)));
+          rw (← q.2) (sheet_formed b.counts q.0 (p.sheet q.0 q.1) (rw q.2 (few s m)));
     }

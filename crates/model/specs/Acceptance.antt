@@ -161,7 +161,7 @@ checkpoints (suc n) = checkpoint ∷ checkpoints n
 
 pub record RefusalFacts : Type 0 where
   -- narrow: 25, then 21, then 22
-  pub narrow-byte-2 : refusal H [] (order 1 3 1 0 255 0) ≡ 25
+  pub narrow_byte_2 : refusal H [] (order 1 3 1 0 255 0) ≡ 25
   pub narrow_byte_3 : refusal H [] (order 1 3 0 1 255 0) ≡ 25
   pub narrow_column : refusal H [] (order 1 3 0 0 255 0) ≡ 21
   pub narrow_mask : refusal H [] (order 1 1 0 0 4 0) ≡ 22
@@ -179,14 +179,14 @@ pub record RefusalFacts : Type 0 where
   pub mark_16 : refusal H (checkpoints 15) mark ≡ 0
   pub mark_17 : refusal H (checkpoints 16) mark ≡ 23
   -- back: 25, then 24
-  pub back-byte-2 : refusal H [] (order 3 0 1 0 0 0) ≡ 25
+  pub back_byte_2 : refusal H [] (order 3 0 1 0 0 0) ≡ 25
   pub back_last_byte : refusal H [] (order 3 0 0 0 0 1) ≡ 25
   pub back_0 : refusal H (checkpoints 2) (back 0) ≡ 24
   pub back_above : refusal H (checkpoints 2) (back 3) ≡ 24
   pub back_depth : refusal H (checkpoints 2) (back 2) ≡ 0
   -- finish: 25, "which covers only bytes 1 to 3 here", then 27
   pub finish_argument : refusal H [] (order 4 1 0 0 0 1) ≡ 25
-  pub finish-byte-2 : refusal H [] (order 4 0 1 0 0 1) ≡ 25
+  pub finish_byte_2 : refusal H [] (order 4 0 1 0 0 1) ≡ 25
   pub finish_byte_3 : refusal H [] (order 4 0 0 1 0 1) ≡ 25
   pub finish_last_byte : refusal H [] (order 4 0 0 0 0 1) ≡ 27
   pub finish_65536 : refusal H [] (4 ∷ 0 ∷ 0 ∷ 0 ∷ 0 ∷ 0 ∷ 1 ∷ 0 ∷ []) ≡ 27

@@ -4,7 +4,7 @@ use mathlib.Core.List.{List, [], ◌∷◌, Memᴰ}
 use Rattle.model.specs.Tests.{all_in, any_in}
 use Rattle.model.specs.Masks.{bit}
 use Rattle.model.specs.Stores.{has, Within}
-use Rattle.model.specs.Closure.{closureOf}
+use Rattle.model.specs.Closure.{closure_of}
 use Rattle.model.specs.Choices.{pick, Lower, Takes, any_choice}
 
 -- ---- books
@@ -136,4 +136,4 @@ supported b B c v = all_in b.sheets (supported_in B c v)
 
 -- the settled domains of A. That they have the value v in column c exactly when v `Stays` there is `Demand2.stays` (Demands)
 unfoldable pub closure : Book → List ℕ → List ℕ
-closure b A = closureOf (column_count b) (supported b) A
+closure b A = closure_of (column_count b) (supported b) A

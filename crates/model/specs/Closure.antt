@@ -36,11 +36,11 @@ module _ (C : ℕ) (ok : List ℕ → ℕ → ℕ → Bool) where
   rounds (suc k) A = let S = strike A in elim (eq_list S A) [ true ↦ A | false ↦ rounds k S ]
 
   -- what the rounds leave, or nothing at all where a column is empty. As many rounds as A has values: each strikes at least one, or is the last
-  unfoldable pub closureOf : List ℕ → List ℕ
-  closureOf A = let B = rounds (values C A) A in cond (all_filled C B) B (empty_store C)
+  unfoldable pub closure_of : List ℕ → List ℕ
+  closure_of A = let B = rounds (values C A) A in cond (all_filled C B) B (empty_store C)
 
   -- ---- what an engine keeps that strikes unsupported values one by one, in any order
   -- B lies between the closure of A and A
   pub record Between (A B : List ℕ) : Type 0 where
-    pub lower : Within (closureOf A) B
+    pub lower : Within (closure_of A) B
     pub upper : Within B A

@@ -94,8 +94,8 @@ abbrev pub finish_causes : List ℕ → List Cause
 finish_causes o = (refuse 27 if ltb 65535 (try_limit o)) ∷ []
 
 -- "Other kinds are refused with 20, before the rest": of their bytes none is looked at
-abbrev pub otherCauses : List Cause
-otherCauses = (refuse 20 if true) ∷ []
+abbrev pub other_causes : List Cause
+other_causes = (refuse 20 if true) ∷ []
 
 -- "An order's refusal goes by its bytes, the book and this list only": the number, or 0 where the order is accepted. Each of the four kinds is first
 -- "Refused with 25 if" a byte that must be zero "isn't zero"
@@ -103,7 +103,7 @@ unfoldable pub refusal : Book → List Entry → List ℕ → ℕ
 refusal b L o =
     first_cause
     ((refuse 25 if some_wrong (zero_places (kind o)) o)
-    ∷ by_kind (kind o) (narrow_causes b o) (mark_causes (depth L)) (back_causes (depth L) o) (finish_causes o) otherCauses)
+    ∷ by_kind (kind o) (narrow_causes b o) (mark_causes (depth L)) (back_causes (depth L) o) (finish_causes o) other_causes)
 
 -- the order is accepted
 abbrev pub is_accepted : Book → List Entry → List ℕ → Bool

@@ -64,27 +64,27 @@ module _ (b : List ℕ) where
   tells : (o : List ℕ) → Tells bk (standing_after b o) (last_answer bk (orders_of o))
   tells o = last_tells bk (orders_of o) [] (opening bk) (showing_tells bk [] 0 state_only)
 
-  says-status : {o a : List ℕ} → EndsWith b o a → byte_at a 1 ≡ status_of bk (domains bk (standing_after b o))
-  says-status {o} e = ap (λ (l : List ℕ). byte_at l 1) (ends_last e) ∙ bytes_1 (last_answer bk (orders_of o)) ∙ (tells o).status
+  says_status : {o a : List ℕ} → EndsWith b o a → byte_at a 1 ≡ status_of bk (domains bk (standing_after b o))
+  says_status {o} e = ap (λ (l : List ℕ). byte_at l 1) (ends_last e) ∙ bytes_1 (last_answer bk (orders_of o)) ∙ (tells o).status
 
-  says-done : {o a : List ℕ} → EndsWith b o a → byte_at a 4 ≡ done_of bk (domains bk (standing_after b o))
-  says-done {o} e = ap (λ (l : List ℕ). byte_at l 4) (ends_last e) ∙ bytes_4 (last_answer bk (orders_of o)) ∙ (tells o).done
+  says_done : {o a : List ℕ} → EndsWith b o a → byte_at a 4 ≡ done_of bk (domains bk (standing_after b o))
+  says_done {o} e = ap (λ (l : List ℕ). byte_at l 4) (ends_last e) ∙ bytes_4 (last_answer bk (orders_of o)) ∙ (tells o).done
 
   -- ---- a finish f, and its answer a when L stands
   module _ (f : List ℕ) (k : kind f ≡ 4) where
-    says-refusal : (L : List Entry) {a : List ℕ} → a ≡ answer_bytes (answer bk L f) → byte_at a 0 ≡ refusal bk L f
-    says-refusal L e = ap (λ (l : List ℕ). byte_at l 0) e ∙ (claim1 bk).byte_0 L f
+    says_refusal : (L : List Entry) {a : List ℕ} → a ≡ answer_bytes (answer bk L f) → byte_at a 0 ≡ refusal bk L f
+    says_refusal L e = ap (λ (l : List ℕ). byte_at l 0) e ∙ (claim1 bk).byte_0 L f
 
     -- it is refused by its bytes alone
     pub refused_alike : (L M : List Entry) → refusal bk L f ≡ refusal bk M f
     refused_alike L M = refusal_finish bk L f k ∙ sym (refusal_finish bk M f k)
 
-    finish-of : (L : List Entry) → refusal bk L f ≡ 0 → AcceptedFinish bk L f
-    finish-of L z = record { of_kind = k; accepted = z }
+    finish_of : (L : List Entry) → refusal bk L f ≡ 0 → AcceptedFinish bk L f
+    finish_of L z = record { of_kind = k; accepted = z }
 
     module _ (p : WellFormed bk) (L : List Entry) {a : List ℕ} (e : a ≡ answer_bytes (answer bk L f)) (z : refusal bk L f ≡ 0) where
       shows : ShowsFinish bk L (try_limit f) (answer bk L f)
-      shows = (claim2 bk p).1.finished L f (finish-of L z)
+      shows = (claim2 bk p).1.finished L f (finish_of L z)
 
       third : byte_at a 3 ≡ (answer bk L f).outcome
       third = ap (λ (l : List ℕ). byte_at l 3) e ∙ bytes_3 (answer bk L f)
@@ -125,11 +125,11 @@ module _ (b x : List ℕ) {f a : List ℕ} where
   answered : NextFinish b x f a → a ≡ answer_bytes (answer (book_of b) (standing_after b x) f)
   answered n = next_last b x f n.bytes n.ends
 
-  let-in : AcceptedNext b x f a → refusal (book_of b) (standing_after b x) f ≡ 0
-  let-in n = sym (says-refusal b f n.next.of_kind (standing_after b x) (answered n.next)) ∙ n.accepted
+  let_in : AcceptedNext b x f a → refusal (book_of b) (standing_after b x) f ≡ 0
+  let_in n = sym (says_refusal b f n.next.of_kind (standing_after b x) (answered n.next)) ∙ n.accepted
 
   taken : AcceptedNext b x f a → AcceptedFinish (book_of b) (standing_after b x) f
-  taken n = finish-of b f n.next.of_kind (standing_after b x) (let-in n)
+  taken n = finish_of b f n.next.of_kind (standing_after b x) (let_in n)
 
   well : NextFinish b x f a → WellFormed (book_of b)
   well n = formed b (x ++ f) (length n.ends.space) n.ends.accepted
@@ -139,16 +139,16 @@ module _ (b x : List ℕ) {f a : List ℕ} where
   unfolding showing
   unstopped n k e =
       k
-      (third b f n.next.of_kind (well n.next) (standing_after b x) (answered n.next) (let-in n)
+      (third b f n.next.of_kind (well n.next) (standing_after b x) (answered n.next) (let_in n)
       ∙ ap (λ (r : Answer). r.outcome) (answer_finish (book_of b) (standing_after b x) f (taken n))
       ∙ e)
 
 pub runs_compare : RunsCompare
 runs_compare b x y = record {
-  same_status = λ h a d p q. says-status b p ∙ ap (status_of (book_of b)) (same_domains (book_of b) L M h) ∙ sym (says-status b q);
-  same_done = λ h a d p q. says-done b p ∙ ap (done_of (book_of b)) (same_domains (book_of b) L M h) ∙ sym (says-done b q);
+  same_status = λ h a d p q. says_status b p ∙ ap (status_of (book_of b)) (same_domains (book_of b) L M h) ∙ sym (says_status b q);
+  same_done = λ h a d p q. says_done b p ∙ ap (done_of (book_of b)) (same_domains (book_of b) L M h) ∙ sym (says_done b q);
   same_refusal = λ f a d n m.
-      says-refusal b f n.of_kind L (answered b x n) ∙ refused_alike b f n.of_kind L M ∙ sym (says-refusal b f n.of_kind M (answered b y m));
+      says_refusal b f n.of_kind L (answered b x n) ∙ refused_alike b f n.of_kind L M ∙ sym (says_refusal b f n.of_kind M (answered b y m));
   same_finish = λ h f g a d n m e.
       alike h n m ((claim_tries (book_of b) (well b x n.next)).0.same_finish L M h (try_limit f) ∙ ap (finishing (book_of b) M) e);
   larger_limit = λ h f g a d n m l k.
@@ -156,14 +156,14 @@ runs_compare b x y = record {
       alike h n m (sym (c.larger_limit L (try_limit f) (try_limit g) l (unstopped b x n k)) ∙ c.same_finish L M h (try_limit g));
   wider_first = λ w v s. firsts b L M w v s;
   wider_found = λ w f g a d n m i k.
-      let s = first b f n.next.of_kind (well b x n.next) L (answered b x n.next) (let-in b x n) (λ e. one-three (sym i ∙ e)) in
-      let v = s.found.0 (sym (third b f n.next.of_kind (well b x n.next) L (answered b x n.next) (let-in b x n)) ∙ i) in
+      let s = first b f n.next.of_kind (well b x n.next) L (answered b x n.next) (let_in b x n) (λ e. one_three (sym i ∙ e)) in
+      let v = s.found.0 (sym (third b f n.next.of_kind (well b x n.next) L (answered b x n.next) (let_in b x n)) ∙ i) in
       let u = firsts b L M w v.0 v.1 in
-      let t = first b g m.next.of_kind (well b y m.next) M (answered b y m.next) (let-in b y m) k in (
-        third b g m.next.of_kind (well b y m.next) M (answered b y m.next) (let-in b y m) ∙ t.found.1 (u.1, u.3.solution),
+      let t = first b g m.next.of_kind (well b y m.next) M (answered b y m.next) (let_in b y m) k in (
+        third b g m.next.of_kind (well b y m.next) M (answered b y m.next) (let_in b y m) ∙ t.found.1 (u.1, u.3.solution),
         rw (
-          set_first b f n.next.of_kind (well b x n.next) L (answered b x n.next) (let-in b x n) (λ e. one-three (sym i ∙ e)) u.0 u.2,
-          set_first b g m.next.of_kind (well b y m.next) M (answered b y m.next) (let-in b y m) k u.1 u.3,
+          set_first b f n.next.of_kind (well b x n.next) L (answered b x n.next) (let_in b x n) (λ e. one_three (sym i ∙ e)) u.0 u.2,
+          set_first b g m.next.of_kind (well b y m.next) M (answered b y m.next) (let_in b y m) k u.1 u.3,
         ) u.4,
       );
 }
@@ -174,8 +174,8 @@ runs_compare b x y = record {
     M : List Entry
     M = standing_after b y
 
-    one-three : ◌≡◌ {A = ℕ} 1 3 → ⊥
-    one-three e = omega arith
+    one_three : ◌≡◌ {A = ℕ} 1 3 → ⊥
+    one_three e = omega arith
 
     alike : {f g a d : List ℕ} → EqualEnds b x y → AcceptedNext b x f a → AcceptedNext b y g d
         → finishing (book_of b) L (try_limit f) ≡ finishing (book_of b) M (try_limit g) → SameFinish a d

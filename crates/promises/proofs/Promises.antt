@@ -54,9 +54,9 @@ module _ (B : Book) (p : WellFormed B) (L : List Entry) (a : Answer) where
       }
 
   module _ (small : (c : ℕ) → get_or a.shown c 0 < 2 ^ 32) (few : a.tries < 65536) where
-    reads-state : ShowsState B L a → AnswerShowsState B L (answer_bytes a)
+    reads_state : ShowsState B L a → AnswerShowsState B L (answer_bytes a)
     unfolding has
-    reads-state s =
+    reads_state s =
         let t = bytes_6_7 a few ∙ s.tries in
         record {
           outcome = bytes_3 a ∙ s.outcome;
@@ -69,8 +69,8 @@ module _ (B : Book) (p : WellFormed B) (L : List Entry) (a : Answer) where
     third k w = (λ y. w.0 (sym (bytes_3 a) ∙ y), λ x. bytes_3 a ∙ w.1 x)
 
     -- no column of none
-    zero-masks : a.shown ≡ tab (column_count B) (λ c. 0) → (c : ℕ) → get_or a.shown c 0 ≡ 0
-    zero-masks e c = ap (λ (D : List ℕ). get_or D c 0) e ∙ tab_zeros (column_count B) c
+    zero_masks : a.shown ≡ tab (column_count B) (λ c. 0) → (c : ℕ) → get_or a.shown c 0 ≡ 0
+    zero_masks e c = ap (λ (D : List ℕ). get_or D c 0) e ∙ tab_zeros (column_count B) c
 
     reads_first : ShowsFirst B L a → AnswerShowsFirst B L (answer_bytes a)
     reads_first s = record {
@@ -80,24 +80,24 @@ module _ (B : Book) (p : WellFormed B) (L : List Entry) (a : Answer) where
           domain_back a c (omega (arith, p.few_columns)) (small c)
           ∙ ap (λ (D : List ℕ). get_or D c 0) (s.first x f)
           ∙ get_d_map (λ v. 2 ^ v) x c (rw f.solution.size l);
-      zeros = λ n c l. domain_back a c l (small c) ∙ zero-masks (s.zeros n) c;
+      zeros = λ n c l. domain_back a c l (small c) ∙ zero_masks (s.zeros n) c;
     }
 
-    reads-finish : {n : ℕ} → ShowsFinish B L n a → AnswerShowsFinish B L n (answer_bytes a)
-    reads-finish s = record {
+    reads_finish : {n : ℕ} → ShowsFinish B L n a → AnswerShowsFinish B L n (answer_bytes a)
+    reads_finish s = record {
       stopped = third 3 s.stopped;
-      stopped_zeros = λ e c l. domain_back a c l (small c) ∙ zero-masks (s.stopped_zeros (sym (bytes_3 a) ∙ e)) c;
+      stopped_zeros = λ e c l. domain_back a c l (small c) ∙ zero_masks (s.stopped_zeros (sym (bytes_3 a) ∙ e)) c;
       stopped_tries = λ e. bytes_6_7 a few ∙ s.stopped_tries (sym (bytes_3 a) ∙ e);
       tries = λ k. bytes_6_7 a few ∙ s.tries (λ e. k (bytes_3 a ∙ e));
       not_stopped = λ k. reads_first (s.not_stopped (λ e. k (bytes_3 a ∙ e)));
-      past = λ c k l. domain_back a c l (small c) ∙ past-masks c k (either (eqb a.outcome 3)) (opt (searched B (domains B L)).solution);
+      past = λ c k l. domain_back a c l (small c) ∙ past_masks c k (either (eqb a.outcome 3)) (opt (searched B (domains B L)).solution);
     }
       where
-        past-masks : (c : ℕ) → column_count B ≤ c → (eqb a.outcome 3 ≡ true) ⊎ (eqb a.outcome 3 ≡ false)
+        past_masks : (c : ℕ) → column_count B ≤ c → (eqb a.outcome 3 ≡ true) ⊎ (eqb a.outcome 3 ≡ false)
             → ((searched B (domains B L)).solution ≡ none) ⊎ ((x : List ℕ) × ((searched B (domains B L)).solution ≡ some x)) → get_or a.shown c 0 ≡ 0
-        past-masks c k (inl e) o = zero-masks (s.stopped_zeros (eqb-true _ 3 e)) c
-        past-masks c k (inr e) (inl q) = zero-masks ((s.not_stopped (eqb-false _ 3 e)).zeros (((claim2 B p).0 L).not_found.0 q)) c
-        past-masks c k (inr e) (inr q) =
+        past_masks c k (inl e) o = zero_masks (s.stopped_zeros (eqb-true _ 3 e)) c
+        past_masks c k (inr e) (inl q) = zero_masks ((s.not_stopped (eqb-false _ 3 e)).zeros (((claim2 B p).0 L).not_found.0 q)) c
+        past_masks c k (inr e) (inr q) =
             let f = (((claim2 B p).0 L).found q.0).0 q.1 in
             ap (λ (D : List ℕ). get_or D c 0) ((s.not_stopped (eqb-false _ 3 e)).first q.0 f) ∙ map_out (λ v. 2 ^ v) q.0 c (rw f.solution.size k)
 
@@ -107,8 +107,8 @@ formed b o room e = right_formed b (accepted_right b (right_input b o room e).bo
 
 module _ (b o space : List ℕ) where
   -- ---- demand 1, of any run
-  any-run : AnyRun b o space
-  any-run = record {
+  any_run : AnyRun b o space
+  any_run = record {
     refused_run = λ l. space_refused b o space (λ e. omega (arith, result_small b o (length space) e));
     untouched = λ j l. rest j l (zero_or b o (length space));
     same_length = long (zero_or b o (length space));
@@ -156,9 +156,9 @@ module _ (b o space : List ℕ) where
     stands_more : (i : ℕ) → T (i + 1) ≡ push bk (T i) (order_at o i)
     stands_more i = ap (trail bk) (orders_more o i) ∙ trail_snoc bk [] (orders_to o i) (order_at o i)
 
-    no-orders : T 0 ≡ []
+    no_orders : T 0 ≡ []
     unfolding tab trail_from
-    no-orders = refl
+    no_orders = refl
 
     -- answer i as the model has it
     at : (i : ℕ) {a : Answer} → i ≤ n → get_or (answers bk (orders_of o)) i (opening bk) ≡ a → answer_at S i ≡ answer_bytes a
@@ -186,27 +186,27 @@ module _ (b o space : List ℕ) where
     unrefused = ap (λ (a : List ℕ). byte_at a 0) opened ∙ bytes_0 (opening bk)
 
     -- ---- the count
-    count-to : (m : ℕ) → accepted_count bk (orders_to o m) ≡ count m (λ i. is_accepted bk (T i) (order_at o i))
+    count_to : (m : ℕ) → accepted_count bk (orders_to o m) ≡ count m (λ i. is_accepted bk (T i) (order_at o i))
     unfolding count sum tab accepted_from
-    count-to zero = refl
-    count-to (suc m) =
+    count_to zero = refl
+    count_to (suc m) =
         ap (accepted_count bk) (tab_last m (order_at o))
         ∙ accepted_snoc bk [] (orders_to o m) (order_at o m)
-        ∙ ap (λ (k : ℕ). k + one_if (is_accepted bk (T m) (order_at o m))) (count-to m)
+        ∙ ap (λ (k : ℕ). k + one_if (is_accepted bk (T m) (order_at o m))) (count_to m)
         ∙ sym (sum_last m (λ i. one_if (is_accepted bk (T i) (order_at o i))))
 
     counted : run_result b o (length space) ≡ count n (λ i. eqb (byte_at (answer_at S (i + 1)) 0) 0)
     unfolding count
     counted =
         result_accepted b o (length space) e
-        ∙ count-to n
+        ∙ count_to n
         ∙ sum_same n (λ i. one_if (is_accepted bk (T i) (order_at o i))) (λ i. one_if (eqb (byte_at (answer_at S (i + 1)) 0) 0))
         (λ i l. ap (λ (r : ℕ). one_if (eqb r 0)) (sym (refusals i l)))
 
     -- ---- the answers
     tells : (i : ℕ) → i ≤ n → AnswerTells bk (T i) (answer_at S i)
     tells =
-        each (λ i. AnswerTells bk (T i) (answer_at S i)) (rw (no-orders, opened) (reads bk well [] (opening bk) (showing_tells bk [] 0 state_only)))
+        each (λ i. AnswerTells bk (T i) (answer_at S i)) (rw (no_orders, opened) (reads bk well [] (opening bk) (showing_tells bk [] 0 state_only)))
         (λ i l.
         rw (stands_more i, ordered i l) (reads bk well (push bk (T i) (order_at o i)) (answer bk (T i) (order_at o i)) (answer_tells bk (T i) (order_at o i))))
 
@@ -219,10 +219,10 @@ module _ (b o space : List ℕ) where
     unfolding showing
     states =
         each (λ i. (IsFinish o S i → ⊥) → AnswerShowsState bk (T i) (answer_at S i))
-        (λ f. rw (no-orders, opened) (reads-state bk well [] (opening bk) (domains_store bk []).bits (omega arith) (claim2 bk well).1.opened))
+        (λ f. rw (no_orders, opened) (reads_state bk well [] (opening bk) (domains_store bk []).bits (omega arith) (claim2 bk well).1.opened))
         (λ i l f.
         rw (stands_more i, ordered i l)
-        (reads-state bk well (push bk (T i) (order_at o i)) (answer bk (T i) (order_at o i)) (shown_small bk well (T i) (order_at o i))
+        (reads_state bk well (push bk (T i) (order_at o i)) (answer bk (T i) (order_at o i)) (shown_small bk well (T i) (order_at o i))
         (tries_small bk (T i) (order_at o i)) ((claim2 bk well).1.ordered (T i) (order_at o i) (no_finish i l f))))
 
     finishes : (i : ℕ) → i ≤ n → IsFinish o S i → AnswerShowsFinish bk (T i) (try_limit (order_at o (i - 1))) (answer_at S i)
@@ -232,7 +232,7 @@ module _ (b o space : List ℕ) where
         let q : i + 1 - 1 ≡ i = omega arith in
         let k : kind (order_at o i) ≡ 4 = rw q at f.of_kind in
         rw (q, stands_more i, push_finish bk (T i) (order_at o i) k, ordered i l)
-        (reads-finish bk well (T i) (answer bk (T i) (order_at o i)) (shown_small bk well (T i) (order_at o i)) (tries_small bk (T i) (order_at o i))
+        (reads_finish bk well (T i) (answer bk (T i) (order_at o i)) (shown_small bk well (T i) (order_at o i)) (tries_small bk (T i) (order_at o i))
         ((claim2 bk well).1.finished (T i) (order_at o i) (record { of_kind = k; accepted = sym (refusals i l) ∙ f.accepted }))))
 
     accepted_run : AcceptedRun bk T o S n (run_result b o (length space))
@@ -248,7 +248,7 @@ module _ (b o space : List ℕ) where
 
 -- ---- the claims
 pub any_runs : AnyRuns
-any_runs b o space = any-run b o space
+any_runs b o space = any_run b o space
 
 pub accepted_runs : AcceptedRuns
 accepted_runs b o space e = accepted_run b o space e

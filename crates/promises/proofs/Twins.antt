@@ -18,8 +18,8 @@ use Rattle.runs.specs.Results.{run_refusal, run_result, run_space, space_needed,
 use Rattle.promises.specs.Twins.{TwinsRunAlike, WrittenOutRuns}
 
 module _ (b c : List ℕ) (p : Accepted b) (q : Accepted c) (h : Twins (book_of b) (book_of c)) where
-  same-figure : check_result b ≡ check_result c
-  same-figure =
+  same_figure : check_result b ≡ check_result c
+  same_figure =
       (accepted_well_formed b p).figure
       ∙ ap₂ (λ (C S : ℕ). C * 16 + S) (ap length h.same_counts) h.as_many
       ∙ sym (accepted_well_formed c q).figure
@@ -31,11 +31,11 @@ module _ (b c : List ℕ) (p : Accepted b) (q : Accepted c) (h : Twins (book_of 
       ap
       (λ (r : ℕ).
       cond (leb 65536 r) r (cond (wrong_list o) (refused 10 0) (cond (ltb room (space_needed o)) (refused 11 (space_needed o)) 0)))
-      same-figure
+      same_figure
 
-  same-space : (o space : List ℕ) → run_space b o space ≡ run_space c o space
+  same_space : (o space : List ℕ) → run_space b o space ≡ run_space c o space
   unfolding run_space
-  same-space o space =
+  same_space o space =
       ap₂ (λ (r : ℕ) (l : List Answer). cond (eqb r 0) (written l space) space) (same_refusal o (length space))
       ((twins_answer (book_of b) (book_of c) (accepted_well_formed b p).well_formed h).every (orders_of o))
 
@@ -46,7 +46,7 @@ module _ (b c : List ℕ) (p : Accepted b) (q : Accepted c) (h : Twins (book_of 
       ((twins_answer (book_of b) (book_of c) (accepted_well_formed b p).well_formed h).accepted (orders_of o))
 
 pub twins_run_alike : TwinsRunAlike
-twins_run_alike b c p q h = record { figure = same-figure b c p q h; spaces = same-space b c p q h; numbers = same_number b c p q h }
+twins_run_alike b c p q h = record { figure = same_figure b c p q h; spaces = same_space b c p q h; numbers = same_number b c p q h }
 
 pub written_out_runs : WrittenOutRuns
 written_out_runs b c p q e = twins_run_alike b c p q (rw e (written_out_twins (book_of b) (accepted_well_formed b p).well_formed))

@@ -79,25 +79,25 @@ module _ (block : List ℕ) (bytes : (i : ℕ) → byte_at block i < 256) where
       }
 
   -- a byte of the joined rows is 128 or more exactly when one of a row is
-  joined-high : (n : ℕ) → Finds (λ r. any_high (word block r)) 0 n (any_high (joined (word block) n))
+  joined_high : (n : ℕ) → Finds (λ r. any_high (word block r)) 0 n (any_high (joined (word block) n))
   unfolding joined
-  joined-high zero = rw high_zero (finds_empty (le_refl 0))
-  joined-high (suc n) =
+  joined_high zero = rw high_zero (finds_empty (le_refl 0))
+  joined_high (suc n) =
       rw (high_or (joined (word block) n) (word block n))
-      (rw add-one at (finds_more (any_high (joined (word block) n)) (omega arith) (joined-high n)))
+      (rw add-one at (finds_more (any_high (joined (word block) n)) (omega arith) (joined_high n)))
 
-  row-bytes : (r : ℕ) → any_high (word block r) ≡ (leb 128 (at0 r) || (leb 128 (at1 r) || (leb 128 (at2 r) || leb 128 (at3 r))))
-  row-bytes r = high_bytes (at0 r) (at1 r) (at2 r) (at3 r) (bytes _) (bytes _) (bytes _) (bytes _)
+  row_bytes : (r : ℕ) → any_high (word block r) ≡ (leb 128 (at0 r) || (leb 128 (at1 r) || (leb 128 (at2 r) || leb 128 (at3 r))))
+  row_bytes r = high_bytes (at0 r) (at1 r) (at2 r) (at3 r) (bytes _) (bytes _) (bytes _) (bytes _)
 
   module _ (w x y z k n : ℕ) (few : (w ≤ 127) × (x ≤ 127) × (y ≤ 127) × (z ≤ 127)) where
     -- a byte of the joined rows is 128 or more: a row is over its bounds, where 255 is no value
     pub high_found : any_high (joined (word block) n) ≡ true → Finds (over_bounds w x y z 0 block) 0 n true
     unfolding over_bounds
     high_found e =
-        let r = (joined-high n).some e in
+        let r = (joined_high n).some e in
         record {
           none = λ t. absurd (false≢true (sym t));
-          some = λ t. (r.0, r.1, r.2, rw (strict w, strict x, strict y, strict z) (high_over w x y z _ _ _ _ (omega (arith, few.0), omega (arith, few.1), omega (arith, few.2), omega (arith, few.3)) (sym (row-bytes r.0) ∙ r.3)));
+          some = λ t. (r.0, r.1, r.2, rw (strict w, strict x, strict y, strict z) (high_over w x y z _ _ _ _ (omega (arith, few.0), omega (arith, few.1), omega (arith, few.2), omega (arith, few.3)) (sym (row_bytes r.0) ∙ r.3)));
         }
       where
         strict : (m v : ℕ) → over_at false m v ≡ leb m v
@@ -111,7 +111,7 @@ module _ (block : List ℕ) (bytes : (i : ℕ) → byte_at block i < 256) where
       where
         same : (r : ℕ) → r < n → raised_row (slack_of w x y z) block r ≡ over_bounds w x y z k block r
         same r p =
-            let low = sym (row-bytes r) ∙ ((joined-high n).none e).at r (omega arith) p in
+            let low = sym (row_bytes r) ∙ ((joined_high n).none e).at r (omega arith) p in
             let low1 = or_false_r (leb 128 (at0 r)) _ low in
             let low2 = or_false_r (leb 128 (at1 r)) _ low1 in
             let l0 = leb-false 128 _ (or_false_l _ _ low) in
@@ -127,9 +127,9 @@ module _ (block : List ℕ) (bytes : (i : ℕ) → byte_at block i < 256) where
             )
 
     -- in any case a turned row and its slack do
-    turned-row : (r : ℕ) → turned_row (turn_of k) (slack_of w x y z - turn_of k) block r ≡ over_bounds w x y z k block r
+    turned_row_lem : (r : ℕ) → turned_row (turn_of k) (slack_of w x y z - turn_of k) block r ≡ over_bounds w x y z k block r
     unfolding over_bounds turned_row
-    turned-row r =
+    turned_row_lem r =
         let a = one_if (ltb 0 k) in
         let b = one_if (ltb 1 k) in
         let c = one_if (ltb 2 k) in
@@ -151,10 +151,10 @@ module _ (block : List ℕ) (bytes : (i : ℕ) → byte_at block i < 256) where
         ))
 
     pub turned_found : {t : Bool} → Finds (turned_row (turn_of k) (slack_of w x y z - turn_of k) block) 0 n t → Finds (over_bounds w x y z k block) 0 n t
-    turned_found h = finds_same (λ r l p. turned-row r) h
+    turned_found h = finds_same (λ r l p. turned_row_lem r) h
 
     pub turned_none : NoneIn (turned_row (turn_of k) (slack_of w x y z - turn_of k) block) 0 n → NoneIn (over_bounds w x y z k block) 0 n
-    turned_none h = record { at = λ r l p. sym (turned-row r) ∙ h.at r l p }
+    turned_none h = record { at = λ r l p. sym (turned_row_lem r) ∙ h.at r l p }
 
 -- ---- a 255 shows in the joined rows of its block
 -- the highest bit of byte j of row r
@@ -211,12 +211,12 @@ row_four w x y z k n r block e0 e1 e2 e3 = rw (e0, e1, e2, e3)
 pub rows_right : (w x y z k n r : ℕ) (block : List ℕ) → r ≤ n → NoneIn (over_bounds w x y z k block) 0 r → NoneIn (wrong_in w x y z k block (4 * n)) 0 (4 * r)
 rows_right w x y z k n r block l h =
     (finds_fours {n = r}
-    (λ i p. row_four w x y z k (4 * n) i block (used-byte 0 (4 * i) (omega arith) (omega arith)) (used-byte 1 (4 * i + 1) (omega arith) (omega arith))
-    (used-byte 2 (4 * i + 2) (omega arith) (omega arith)) (used-byte 3 (4 * i + 3) (omega arith) (omega arith)))
+    (λ i p. row_four w x y z k (4 * n) i block (used_byte 0 (4 * i) (omega arith) (omega arith)) (used_byte 1 (4 * i + 1) (omega arith) (omega arith))
+    (used_byte 2 (4 * i + 2) (omega arith) (omega arith)) (used_byte 3 (4 * i + 3) (omega arith) (omega arith)))
     (record { none = λ e. h; some = λ e. absurd (false≢true e) })).none refl
   where
-    used-byte : (j i : ℕ) → i < 4 * n → i % 4 ≡ j → over_at (ltb j k) (fourth w x y z j) (byte_at block i) ≡ wrong_in w x y z k block (4 * n) i
-    used-byte j i p e = sym (in_used w x y z k (4 * n) j i block p e)
+    used_byte : (j i : ℕ) → i < 4 * n → i % 4 ≡ j → over_at (ltb j k) (fourth w x y z j) (byte_at block i) ≡ wrong_in w x y z k block (4 * n) i
+    used_byte j i p e = sym (in_used w x y z k (4 * n) j i block p e)
 
 -- the unused rows are zero, so a wrong byte is one of a row that is over its bounds
 module _ (w x y z k n : ℕ) (block : List ℕ) (s : SmallBounds w x y z) (zero_rest : NoneIn (set_at block) (4 * n) 508) where
@@ -227,8 +227,8 @@ module _ (w x y z k n : ℕ) (block : List ℕ) (s : SmallBounds w x y z) (zero_
       let o : byte_at block i ≡ 0 = eqb-true (byte_at block i) 0 (not-false _ e) in
       (lt-leb v (byte_at block i) (omega arith), past_used w x y z k (4 * n) i block p ∙ e)
 
-  byte-same : (j i : ℕ) → 1 ≤ fourth w x y z j → i % 4 ≡ j → i < 508 → over_at (ltb j k) (fourth w x y z j) (byte_at block i) ≡ wrong_in w x y z k block (4 * n) i
-  byte-same j i h e p = go (below i (4 * n))
+  byte_same : (j i : ℕ) → 1 ≤ fourth w x y z j → i % 4 ≡ j → i < 508 → over_at (ltb j k) (fourth w x y z j) (byte_at block i) ≡ wrong_in w x y z k block (4 * n) i
+  byte_same j i h e p = go (below i (4 * n))
     where
       go : (i < 4 * n) ⊎ (4 * n ≤ i) → over_at (ltb j k) (fourth w x y z j) (byte_at block i) ≡ wrong_in w x y z k block (4 * n) i
       go (inl l) = sym (in_used w x y z k (4 * n) j i block l e)
@@ -237,9 +237,9 @@ module _ (w x y z k n : ℕ) (block : List ℕ) (s : SmallBounds w x y z) (zero_
   pub over_found : {t : Bool} → Finds (over_bounds w x y z k block) 0 127 t → Finds (wrong_in w x y z k block (4 * n)) 0 508 t
   over_found h =
       finds_fours
-      (λ r p. row_four w x y z k (4 * n) r block (byte-same 0 (4 * r) s.some.0 (omega arith) (omega arith))
-      (byte-same 1 (4 * r + 1) s.some.1 (omega arith) (omega arith)) (byte-same 2 (4 * r + 2) s.some.2 (omega arith) (omega arith))
-      (byte-same 3 (4 * r + 3) s.some.3 (omega arith) (omega arith)))
+      (λ r p. row_four w x y z k (4 * n) r block (byte_same 0 (4 * r) s.some.0 (omega arith) (omega arith))
+      (byte_same 1 (4 * r + 1) s.some.1 (omega arith) (omega arith)) (byte_same 2 (4 * r + 2) s.some.2 (omega arith) (omega arith))
+      (byte_same 3 (4 * r + 3) s.some.3 (omega arith) (omega arith)))
       h
 
 -- a byte that is not wrong where no place has a value is not wrong
@@ -289,24 +289,24 @@ module _ (b : List ℕ) (s q : ℕ) (there : 512 * (first_block b s + q) + 512 �
           rw (le-ltb (rows_of b s - 127 * q) 127 d) (lt-ltb i (4 * 127) (omega arith) ∙ sym (lt-ltb (127 * q + i / 4) (rows_of b s) (omega arith)))
 
   -- byte i is wrong, as the code looks at it
-  abbrev seenWrong : ℕ → Bool
-  seenWrong = wrong_in (place_bound b s 0) (place_bound b s 1) (place_bound b s 2) (place_bound b s 3) (any_places b s) (block_at b (first_block b s + q)) (4 * used_rows (rows_of b s) q)
+  abbrev seen_wrong : ℕ → Bool
+  seen_wrong = wrong_in (place_bound b s 0) (place_bound b s 1) (place_bound b s 2) (place_bound b s 3) (any_places b s) (block_at b (first_block b s + q)) (4 * used_rows (rows_of b s) q)
 
-  same_byte : (i : ℕ) → i < 508 → seenWrong i ≡ wrong_byte b s q i
+  same_byte : (i : ℕ) → i < 508 → seen_wrong i ≡ wrong_byte b s q i
   unfolding wrong_in wrong_byte
   same_byte i p = go (either (ltb (127 * q + i / 4) (rows_of b s)))
     where
       byte : byte_at (block_at b (first_block b s + q)) i ≡ byte_at b (512 * (first_block b s + q) + i)
       byte = block_byte b (first_block b s + q) there i (omega arith)
 
-      go : (ltb (127 * q + i / 4) (rows_of b s) ≡ true) ⊎ (ltb (127 * q + i / 4) (rows_of b s) ≡ false) → seenWrong i ≡ wrong_byte b s q i
+      go : (ltb (127 * q + i / 4) (rows_of b s) ≡ true) ⊎ (ltb (127 * q + i / 4) (rows_of b s) ≡ false) → seen_wrong i ≡ wrong_byte b s q i
       go (inl e) = rw (used i p, e, fourth_bound b s (i % 4) (mod-lt i (omega arith)), byte, wrong_used b s (127 * q + i / 4) (i % 4) (byte_at b (512 * (first_block b s + q) + i)) (ltb-true _ _ e))
       go (inr e) = rw (used i p, e, byte, wrong_unused b s (127 * q + i / 4) (i % 4) (byte_at b (512 * (first_block b s + q) + i)) (ltb-false _ _ e)) (set_leb (byte_at b (512 * (first_block b s + q) + i)))
 
   -- so a look at the block tells whether it is wrong
-  block-wrong : (r : Bool) → Finds seenWrong 0 508 r → r ≡ wrong_block b s q
+  block_wrong : (r : Bool) → Finds seen_wrong 0 508 r → r ≡ wrong_block b s q
   unfolding wrong_block
-  block-wrong r h = sym (finds_any r (finds_same (λ i l p. same_byte i p) h))
+  block_wrong r h = sym (finds_any r (finds_same (λ i l p. same_byte i p) h))
 
 -- the same of what the code holds: the sheet with its bounds, the block's bytes, the sheet's rows and the used ones of block q
 pub block_seen : (b block : List ℕ) (s q start w x y z k n used : ℕ) (r : Bool)
@@ -315,7 +315,7 @@ pub block_seen : (b block : List ℕ) (s q start w x y z k n used : ℕ) (r : Bo
 unfolding blocks_of
 block_seen b block s q start w x y z k n used r m p hb hn hu h =
     let u = m.bounds in
-    block-wrong b s q (omega arith) (omega arith) r (rw (u.first, u.second, u.third, u.last, u.values, hb, hu, hn, m.starts) at h)
+    block_wrong b s q (omega arith) (omega arith) r (rw (u.first, u.second, u.third, u.last, u.values, hb, hu, hn, m.starts) at h)
 
 -- of a first look, where no place has a value
 pub block_clear : (b block : List ℕ) (s q start w x y z k n used : ℕ) (r : Bool)

@@ -20,18 +20,18 @@ high v m p t h l = go (below p 128)
     go (inr k) = let e : m / 2 ^ v % 2 ≡ 1 = omega arith in rw (e, le-leb 128 p k)
 
 module _ (p q r s : ℕ) (hp : p < 256) (hq : q < 256) (hr : r < 256) (hs : s < 256) where
-  abbrev fourBytes : ℕ
-  fourBytes = p + q * 256 + r * 65536 + s * 16777216
+  abbrev four_bytes : ℕ
+  four_bytes = p + q * 256 + r * 65536 + s * 16777216
 
-  pub high_each : (bit 7 fourBytes ≡ leb 128 p) × (bit 15 fourBytes ≡ leb 128 q) × (bit 23 fourBytes ≡ leb 128 r) × (bit 31 fourBytes ≡ leb 128 s)
+  pub high_each : (bit 7 four_bytes ≡ leb 128 p) × (bit 15 four_bytes ≡ leb 128 q) × (bit 23 four_bytes ≡ leb 128 r) × (bit 31 four_bytes ≡ leb 128 s)
   high_each = (
-    high 7 fourBytes p (q + r * 256 + s * 65536) (omega arith) hp,
-    high 15 fourBytes q (r + s * 256) (omega arith) hq,
-    high 23 fourBytes r s (omega arith) hr,
-    high 31 fourBytes s 0 (omega arith) hs,
+    high 7 four_bytes p (q + r * 256 + s * 65536) (omega arith) hp,
+    high 15 four_bytes q (r + s * 256) (omega arith) hq,
+    high 23 four_bytes r s (omega arith) hr,
+    high 31 four_bytes s 0 (omega arith) hs,
   )
 
-  pub high_bytes : any_high fourBytes ≡ (leb 128 p || (leb 128 q || (leb 128 r || leb 128 s)))
+  pub high_bytes : any_high four_bytes ≡ (leb 128 p || (leb 128 q || (leb 128 r || leb 128 s)))
   unfolding any_high
   high_bytes = let h = high_each in rw (h.0, h.1, h.2, h.3)
 

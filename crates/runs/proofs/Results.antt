@@ -43,9 +43,9 @@ module _ (b o : List ℕ) (room : ℕ) where
   right_zero h = rw (lt-leb 65536 (check_result b) h.book, h.list, le-ltb room (space_needed o) h.enough) refl
 
   -- a refusal is 65,536 or more
-  refusal-large : (run_refusal b o room ≡ 0 → ⊥) → 65536 ≤ run_refusal b o room
+  refusal_large : (run_refusal b o room ≡ 0 → ⊥) → 65536 ≤ run_refusal b o room
   unfolding run_refusal
-  refusal-large n = go (either (leb 65536 (check_result b))) (either (wrong_list o)) (either (ltb room (space_needed o)))
+  refusal_large n = go (either (leb 65536 (check_result b))) (either (wrong_list o)) (either (ltb room (space_needed o)))
     where
       go : (leb 65536 (check_result b) ≡ true) ⊎ (leb 65536 (check_result b) ≡ false) → (wrong_list o ≡ true) ⊎ (wrong_list o ≡ false)
           → (ltb room (space_needed o) ≡ true) ⊎ (ltb room (space_needed o) ≡ false) → 65536 ≤ run_refusal b o room
@@ -85,7 +85,7 @@ module _ (b o : List ℕ) (room : ℕ) where
     where
       go : (run_refusal b o room ≡ 0) ⊎ (run_refusal b o room ≡ 0 → ⊥) → run_refusal b o room ≡ 0
       go (inl e) = e
-      go (inr n) = absurd (omega (arith, result_refused n, refusal-large n))
+      go (inr n) = absurd (omega (arith, result_refused n, refusal_large n))
 
 module _ (b o space : List ℕ) where
   pub space_accepted : run_refusal b o (length space) ≡ 0 → run_space b o space ≡ written (answers (book_of b) (orders_of o)) space
@@ -99,8 +99,8 @@ module _ (b o space : List ℕ) where
   -- ---- each refusal, as the code gives it
   module _ {v : ℕ} (e : v ≡ check_result b) where
     -- the number is a refusal, so nothing is written
-    refuses-with : {r : ℕ} → run_refusal b o (length space) ≡ r → (r ≡ 0 → ⊥) → (r ≡ run_result b o (length space)) × (space ≡ run_space b o space)
-    refuses-with {r} q n =
+    refuses_with : {r : ℕ} → run_refusal b o (length space) ≡ r → (r ≡ 0 → ⊥) → (r ≡ run_result b o (length space)) × (space ≡ run_space b o space)
+    refuses_with {r} q n =
         let z : run_refusal b o (length space) ≡ 0 → ⊥ = λ y. n (sym q ∙ y) in
         (sym (result_refused b o (length space) z ∙ q), sym (space_refused z))
 
@@ -108,7 +108,7 @@ module _ (b o space : List ℕ) where
     unfolding run_refusal
     book_refused l =
         let k : 65536 ≤ check_result b = omega arith in
-        refuses-with (rw (le-leb 65536 (check_result b) k) (sym e)) (λ y. omega arith)
+        refuses_with (rw (le-leb 65536 (check_result b) k) (sym e)) (λ y. omega arith)
 
     module _ (l : v < 65536) {w : Bool} (f : w ≡ wrong_list o) where
       fits : leb 65536 (check_result b) ≡ false
@@ -116,8 +116,8 @@ module _ (b o space : List ℕ) where
 
       pub list_refused : w ≡ true → (655360 ≡ run_result b o (length space)) × (space ≡ run_space b o space)
       unfolding run_refusal
-      list_refused t = refuses-with (rw (fits, ← f, t) refl) (λ y. omega arith)
+      list_refused t = refuses_with (rw (fits, ← f, t) refl) (λ y. omega arith)
 
       pub space_short : w ≡ false → length space < space_needed o → (720896 + space_needed o ≡ run_result b o (length space)) × (space ≡ run_space b o space)
       unfolding run_refusal
-      space_short t s = refuses-with (rw (fits, ← f, t, lt-ltb (length space) (space_needed o) s) refl) (λ y. omega arith)
+      space_short t s = refuses_with (rw (fits, ← f, t, lt-ltb (length space) (space_needed o) s) refl) (λ y. omega arith)

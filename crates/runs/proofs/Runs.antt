@@ -97,11 +97,11 @@ module _ (b o old : List ℕ) where
   T n = trail bk (orders_to o n)
 
   -- the sessions: none but the opening's, and one more
-  led-none : {s : Session} → Holds b [] s → Led b o 0 s
-  led-none {s} h = record { session = λ i. s; opened = h; steps = λ i l. absurd (omega arith); last = refl }
+  led_none : {s : Session} → Holds b [] s → Led b o 0 s
+  led_none {s} h = record { session = λ i. s; opened = h; steps = λ i l. absurd (omega arith); last = refl }
 
-  led-more : (n : ℕ) {s : Session} (t : Session) → Led b o n s → Stepped b s (order_at o n) t → Led b o (n + 1) t
-  led-more n {s} t p g = record {
+  led_more : (n : ℕ) {s : Session} (t : Session) → Led b o n s → Stepped b s (order_at o n) t → Led b o (n + 1) t
+  led_more n {s} t p g = record {
     session = session;
     opened = rw (early 0 (omega arith)) p.opened;
     steps = λ i l. step i (below i n) l;
@@ -123,7 +123,7 @@ module _ (b o old : List ℕ) where
 
   pub ran_none : {s : Session} {space : List ℕ} → 72 ≤ length old → Holds b [] s → Adds 0 (opening bk) old space → RanTo b o old 0 s 0 space
   unfolding tab trail_from accepted_from answers_from all_bytes
-  ran_none l h w = record { led = led-none h; holds = h; counts = refl; wrote = w [] old refl l refl }
+  ran_none l h w = record { led = led_none h; holds = h; counts = refl; wrote = w [] old refl l refl }
 
   pub ran_few : {n k : ℕ} {s : Session} {space : List ℕ} → RanTo b o old n s k space → k ≤ n
   ran_few {n} {k} {s} {space} h = omega (arith, h.counts, accepted_few bk [] (orders_to o n), length-tab n (order_at o))
@@ -149,7 +149,7 @@ module _ (b o old : List ℕ) where
 
       pub more : {j : ℕ} → j ≡ k + one_if (eqb r 0) → RanTo b o old (n + 1) t j space'
       more {j} c = record {
-        led = led-more n t h.led (rw e at g);
+        led = led_more n t h.led (rw e at g);
         holds = rw (orders_more o n, trail_snoc bk [] (orders_to o n) (order_at o n), ← e) (g.holds _ h.holds);
         counts =
             c
@@ -168,7 +168,7 @@ module _ (b o old : List ℕ) where
   unfolding tab trail_from accepted_from answers_from
   opened_ran {s} {space} l h w =
       let e = (ran_none l h w).wrote in
-      record { led = led-none h; holds = h; counts = refl; wrote = e ∙ sym (written_over (opening bk ∷ []) (opening bk ∷ []) old e (omega arith)) }
+      record { led = led_none h; holds = h; counts = refl; wrote = e ∙ sym (written_over (opening bk ∷ []) (opening bk ∷ []) old e (omega arith)) }
 
   pub opened_long : {s : Session} {space : List ℕ} → 72 ≤ length old → Holds b [] s → Adds 0 (opening bk) old space → length space ≡ length old
   opened_long {s} {space} l h w = ran_room (ran_none l h w) (omega arith)

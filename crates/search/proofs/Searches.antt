@@ -74,11 +74,11 @@ module _ (b : List ℕ) (acc : Accepted b) where
     pub filled_store : IsStore (column_count (book_of b)) (store_in b D)
     filled_store = is_store_in b h.is.store
 
-    filled-domains : store_in b D ≡ domains (book_of b) h.trail
-    filled-domains = store_is b D (domains (book_of b) h.trail) (domains_store (book_of b) h.trail) h.is.holds.domain
+    filled_domains : store_in b D ≡ domains (book_of b) h.trail
+    filled_domains = store_is b D (domains (book_of b) h.trail) (domains_store (book_of b) h.trail) h.is.holds.domain
 
     pub filled_same : (c : ℕ) → get_or D c 0 ≡ get_or (store_in b D) c 0
-    filled_same c = rw filled-domains (h.is.holds.domain c)
+    filled_same c = rw filled_domains (h.is.holds.domain c)
 
     pub same_has : (c v : ℕ) → has D c v ≡ has (store_in b D) c v
     unfolding has
@@ -137,11 +137,11 @@ module _ (b : List ℕ) (acc : Accepted b) where
       after_is =
           ap (closure_in b) (sym set-meet)
           ∙ ap (closure (book_of b)) (met_store b acc h.trail h.is.holds h.is.store h.is.sized c (2 ^ v) o.column)
-          ∙ ap (λ (S : List ℕ). closure (book_of b) (meet S c (2 ^ v))) (sym filled-domains)
+          ∙ ap (λ (S : List ℕ). closure (book_of b) (meet S c (2 ^ v))) (sym filled_domains)
           ∙ ap (closure (book_of b)) (assign-meet E c v (filled_store.bits c) value_small value)
 
-      value-trail : closure_in b (set D c m) ≡ domains (book_of b) (h.trail ++ (narrowed c (2 ^ v) ∷ []))
-      value-trail =
+      value_trail : closure_in b (set D c m) ≡ domains (book_of b) (h.trail ++ (narrowed c (2 ^ v) ∷ []))
+      value_trail =
           ap (closure_in b) (sym set-meet) ∙ met_closure b acc h.trail h.is.holds h.is.store h.is.sized c (2 ^ v) o.column
 
       -- no store is left: nothing more is tried
@@ -156,22 +156,22 @@ module _ (b : List ℕ) (acc : Accepted b) where
         pub value_filled : FilledState b D' W' X' N'
         value_filled = record {
           trail = h.trail ++ (narrowed c (2 ^ v) ∷ []);
-          is = record { holds = rw (← value-trail) (p.state t); store = p.store; sized = p.sized };
+          is = record { holds = rw (← value_trail) (p.state t); store = p.store; sized = p.sized };
           filled = p.filled t;
         }
 
-        value-store : store_in b D' ≡ after (book_of b) (store_in b D) c v
-        value-store =
+        value_store : store_in b D' ≡ after (book_of b) (store_in b D) c v
+        value_store =
             store_is b D' (after (book_of b) E c v) (after_store (book_of b) book_formed E filled_store c inside v value)
             (λ k. (p.state t).domain k ∙ ap (λ (S : List ℕ). get_or S k 0) after_is)
 
         pub value_found : {n m : ℕ} {f : Held} → Reaches b n m (search_in b D') f → Reaches b n m (search_after b D c v) f
-        value_found {n} {m} {f} s = subst (λ (S : List ℕ). Reaches b n m (searched (book_of b) S) f) value-store s
+        value_found {n} {m} {f} s = subst (λ (S : List ℕ). Reaches b n m (searched (book_of b) S) f) value_store s
 
         pub value_fewer : values_left b D' < values_left b D
         unfolding is_open
         value_fewer =
-            subst⁻¹ (λ (S : List ℕ). values (column_count (book_of b)) S < values_left b D) value-store
+            subst⁻¹ (λ (S : List ℕ). values (column_count (book_of b)) S < values_left b D) value_store
             (after_fewer (book_of b) book_formed E filled_store c inside v value
             (many_column (get_or E c 0) (ap (λ (m : ℕ). ltb 1 (size m)) (sym (filled_same c)) ∙ o.more)))
 
@@ -182,8 +182,8 @@ reaches_as {b} {n} {f = f} e s = record { shows = λ D. subst (λ (i : Searched)
 
 -- no solution is shown: none, or stopped
 module _ (b : List ℕ) {k t : ℕ} {f : Held} (s : (f.number ≡ k) × (f.tries ≡ t) × (f.masks ≡ replicate 16 0)) where
-  no-masks : (c : ℕ) → c < 16 → get_or f.masks c 0 ≡ get_or (tab (column_count (book_of b)) (λ c. 0)) c 0
-  no-masks c l = ap (λ (M : List ℕ). get_or M c 0) s.2 ∙ zeros_at 16 c ∙ sym (tab_zeros (column_count (book_of b)) c)
+  no_masks : (c : ℕ) → c < 16 → get_or f.masks c 0 ≡ get_or (tab (column_count (book_of b)) (λ c. 0)) c 0
+  no_masks c l = ap (λ (M : List ℕ). get_or M c 0) s.2 ∙ zeros_at 16 c ∙ sym (tab_zeros (column_count (book_of b)) c)
 
   pub none_reached : {n m : ℕ} {g : Searched} → k ≡ 2 → g.solution ≡ none → t ≡ m + g.tries → t ≤ n → Reaches b n m g f
   none_reached {n} {m} {g} z e q l =
@@ -191,7 +191,7 @@ module _ (b : List ℕ) {k t : ℕ} {f : Held} (s : (f.number ≡ k) × (f.tries
         shows = λ D.
             subst⁻¹ (λ (x : Outcome). OutcomeIs b D x f)
             (limited_enough n (following m g) (rw q at l) ∙ unlimited_none (following m g) e)
-            (record { number = s.0 ∙ z; tries = s.1 ∙ q; masks = no-masks });
+            (record { number = s.0 ∙ z; tries = s.1 ∙ q; masks = no_masks });
       }
 
   pub stopped_reached : {n m : ℕ} {g : Searched} → k ≡ 3 → t ≡ n → n < m + g.tries → Reaches b n m g f
@@ -199,7 +199,7 @@ module _ (b : List ℕ) {k t : ℕ} {f : Held} (s : (f.number ≡ k) × (f.tries
       record {
         shows = λ D.
             subst⁻¹ (λ (x : Outcome). OutcomeIs b D x f) (limited_stopped n (following m g) l)
-            (record { number = s.0 ∙ z; tries = s.1 ∙ q; masks = no-masks });
+            (record { number = s.0 ∙ z; tries = s.1 ∙ q; masks = no_masks });
       }
 
 -- found, none or stopped, by the number
@@ -294,28 +294,28 @@ module _ (b : List ℕ) (acc : Accepted b) {D W X N : List ℕ} (h : FilledState
       abbrev others : (ℕ → Bool) → Searched
       others p = try_each 32 p (λ w. search_after b D c w)
 
-      v-first : (p : ℕ → Bool) → p v ≡ false → ((w : ℕ) → (w ≡ v → ⊥) → p w ≡ bit w rest)
+      v_first : (p : ℕ → Bool) → p v ≡ false → ((w : ℕ) → (w ≡ v → ⊥) → p w ≡ bit w rest)
           → following made (search_in b D) ≡ following count (or_else (following 1 (search_after b D c v)) (others p))
-      v-first p gone kept =
+      v_first p gone kept =
           u.left
           ∙ ap (following count)
           (try_each-lowest 32 (λ w. bit w rest) p (λ w. search_after b D c w) v
           (in_store (column_count (book_of b)) S (filled_store b acc h) c v (sym (same_has b acc h c v) ∙ u.own v e)).1 e
           (λ w m. lowest_under 32 rest w (rw q at m)) gone kept)
 
-      abbrev but-v : ℕ → Bool
-      but-v w = bit w rest && not (eqb w v)
+      abbrev but_v : ℕ → Bool
+      but_v w = bit w rest && not (eqb w v)
 
-      v-then : following made (search_in b D) ≡ following count (or_else (following 1 (search_after b D c v)) (others but-v))
-      v-then =
-          v-first but-v (ap (λ (t : Bool). bit v rest && not t) (eq-eqb v v refl) ∙ and_false (bit v rest))
+      v_then : following made (search_in b D) ≡ following count (or_else (following 1 (search_after b D c v)) (others but_v))
+      v_then =
+          v_first but_v (ap (λ (t : Bool). bit v rest && not t) (eq-eqb v v refl) ∙ and_false (bit v rest))
           (λ w z. ap (λ (t : Bool). bit w rest && not t) (ne_eqb w v z) ∙ and_true (bit w rest))
 
       -- at least one try more is needed, and those that come after it
       needed : (t : ℕ) → t ≤ (search_after b D c v).tries → count + (1 + t) ≤ made + (search_in b D).tries
       needed t m =
-          let f = ap (λ (i : Searched). i.tries) v-then in
-          omega (arith, f, else_more (following 1 next) (others but-v))
+          let f = ap (λ (i : Searched). i.tries) v_then in
+          omega (arith, f, else_more (following 1 next) (others but_v))
 
       -- there is no try left
       pub picked_stopped : {n : ℕ} {f : Held} → (f.number ≡ 3) × (f.tries ≡ n) × (f.masks ≡ replicate 16 0) → count ≡ n → Reaches b n made (search_in b D) f
@@ -329,8 +329,8 @@ module _ (b : List ℕ) (acc : Accepted b) {D W X N : List ℕ} (h : FilledState
           go (is_found x t a i m) =
               reaches_as
               (ap (λ (j : ℕ). record { solution = next.solution; tries = j }) (omega arith)
-              ∙ ap (following count) (sym (else_found (following 1 next) (others but-v) i))
-              ∙ sym v-then)
+              ∙ ap (following count) (sym (else_found (following 1 next) (others but_v) i))
+              ∙ sym v_then)
               s
           go (is_none t a i m) = absurd (k ((s.shows []).number ∙ ap outcome_number a))
           go (is_stopped a m) =
@@ -356,7 +356,7 @@ module _ (b : List ℕ) (acc : Accepted b) {D W X N : List ℕ} (h : FilledState
 
           left' : following made (search_in b D) ≡ following f.tries (others (λ w. bit w less))
           left' =
-              v-first (λ w. bit w less) (rw q k.gone) (λ w t. k.rest w (λ j. t (j ∙ sym q)))
+              v_first (λ w. bit w less) (rw q k.gone) (λ w t. k.rest w (λ j. t (j ∙ sym q)))
               ∙ ap (following count) (else_none (following 1 next) (others (λ w. bit w less)) given.0)
               ∙ ap (λ (j : ℕ). record { solution = (others (λ w. bit w less)).solution; tries = j }) (omega (arith, given.1))
 
@@ -371,7 +371,7 @@ module _ (b : List ℕ) (acc : Accepted b) (st : State) where
   -- column 0 is empty: there is nothing to try
   pub finish_failed : (n : ℕ) (f : Held) → (f.number ≡ 2) × (f.tries ≡ 0) × (f.masks ≡ replicate 16 0) → get_or st.dom 0 0 ≡ 0 → Finishes b st n f
   unfolding has
-  finish_failed n f s z L h A = rw at-0 (reached.shows A)
+  finish_failed n f s z L h A = rw at_0 (reached.shows A)
     where
       D : List ℕ
       D = domains (book_of b) L
@@ -385,8 +385,8 @@ module _ (b : List ℕ) (acc : Accepted b) (st : State) where
           let v = filled_e (column_count (book_of b)) D e 0 (book_formed b acc).some_column in
           absurd (false≢true (sym (bit_of_zero v.0) ∙ ap (bit v.0) (sym z ∙ h.holds.domain 0) ∙ v.1))
 
-      at-0 : searched (book_of b) (domains (book_of b) L) ≡ following 0 (at_once none)
-      at-0 =
+      at_0 : searched (book_of b) (domains (book_of b) L) ≡ following 0 (at_once none)
+      at_0 =
           searched_empty (book_of b) (book_formed b acc) D (domains_store (book_of b) L) (go (either (all_filled (column_count (book_of b)) D)))
           ∙ sym (following_0 (at_once none))
 

@@ -18,7 +18,7 @@ use Rattle.model.specs.Tests.{any_below}
 use Rattle.model.proofs.Masks.{bit-and, bit_of_zero, ones32, some_bit}
 use Rattle.model.proofs.Refusals.{accepted_back, accepted_mark, accepted_narrow, push-back, push_ind, push-mark, push-narrow, push_refused}
 use Rattle.model.proofs.Tests.{and_false, and_true, any_below_i, any_below_none, below, either, positive}
-use Rattle.model.proofs.Trails.{before_append, before_before, before_new, depth_before, depth_checkpoint, depth_narrowed, domains-checkpoint}
+use Rattle.model.proofs.Trails.{before_append, before_before, before_new, depth_before, depth_checkpoint, depth_narrowed, domains_checkpoint}
 use Rattle.book.specs.Decoding.{book_of}
 use Rattle.heads.specs.Heads.{columns_of, values_of}
 use Rattle.book.specs.Verdicts.{Accepted}
@@ -41,8 +41,8 @@ outside-mask b acc c m p v l fits ev ep = rw (count_at b c l) (go (either (eqb (
     few : values_of b c ≤ 32
     few = values_few b acc c l
 
-    is-p : p ≡ places_below (values_of b c)
-    is-p = ep ∙ ap places_below ev
+    is_p : p ≡ places_below (values_of b c)
+    is_p = ep ∙ ap places_below ev
 
     flip : (u : ℕ) → not (ltb u (values_of b c)) ≡ leb (values_of b c) u
     flip u = at (below u (values_of b c))
@@ -55,7 +55,7 @@ outside-mask b acc c m p v l fits ev ep = rw (count_at b c l) (go (either (eqb (
     bits u q =
         bit-and u m (ones32 - p)
         ∙ ap (λ (t : Bool). bit u m && t)
-        (rw is-p (complement 32 (places_below (values_of b c)) u (places_lt (values_of b c) 32 few (omega arith)) q) ∙ ap not (places_bit (values_of b c) u few) ∙ flip u)
+        (rw is_p (complement 32 (places_below (values_of b c)) u (places_lt (values_of b c) 32 few (omega arith)) q) ∙ ap not (places_bit (values_of b c) u few) ∙ flip u)
         ∙ swap (bit u m) (leb (values_of b c) u)
       where
         swap : (x y : Bool) → (x && y) ≡ (y && x)
@@ -97,7 +97,7 @@ module _ (s t : Session) where
 
   pub mark_holds : t.now ≡ s.now → t.depth ≡ s.depth + 1 → t.saved ≡ set s.saved s.depth s.now → s.depth < 16 → MarkHolds s t
   mark_holds en ed es l b L h = record {
-    current = rw en (state_like (sym (domains-checkpoint (book_of b) L)) h.current);
+    current = rw en (state_like (sym (domains_checkpoint (book_of b) L)) h.current);
     deep = omega (arith, h.deep, depth_checkpoint L);
     few = omega (arith, h.deep, depth_checkpoint L);
     marked = λ k q. rw es (at k (below k (depth L)) (omega (arith, depth_checkpoint L)));
@@ -149,22 +149,22 @@ module _ (b : List ℕ) (s : Session) (o : List ℕ) where
     accepted L h = sym (f L h) ∙ z
 
     -- the order was accepted, and is no finish
-    accepted-steps : (t : Session) → (kind o ≡ 4 → ⊥) → ((L : List Entry) → Holds b L s → Holds b (push (book_of b) L o) t) → Stepped b s o t
-    accepted-steps t n g = record { holds = g; refused = λ L h m. absurd (m (accepted L h)); finish = λ k. absurd (n k) }
+    accepted_steps : (t : Session) → (kind o ≡ 4 → ⊥) → ((L : List Entry) → Holds b L s → Holds b (push (book_of b) L o) t) → Stepped b s o t
+    accepted_steps t n g = record { holds = g; refused = λ L h m. absurd (m (accepted L h)); finish = λ k. absurd (n k) }
 
     pub step_narrow : (t : Session) {c m : ℕ} → kind o ≡ 1 → c ≡ argument o → m ≡ mask o → NarrowHolds b c m s t → Stepped b s o t
     step_narrow t {c} {m} k ec em n =
-        accepted-steps t (λ f. omega arith)
+        accepted_steps t (λ f. omega arith)
         (λ L h. subst⁻¹ (λ (M : List Entry). Holds b M t) (push-narrow (book_of b) L o k (accepted L h)) (rw (ec, em) at (n L h)))
 
     pub step_mark : (t : Session) → kind o ≡ 2 → MarkHolds s t → Stepped b s o t
     step_mark t k n =
-        accepted-steps t (λ f. omega arith)
+        accepted_steps t (λ f. omega arith)
         (λ L h. subst⁻¹ (λ (M : List Entry). Holds b M t) (push-mark (book_of b) L o k (accepted L h)) (n b L h))
 
     pub step_back : (t : Session) {m : ℕ} → kind o ≡ 3 → m ≡ argument o → BackHolds m s t → Stepped b s o t
     step_back t {m} k em n =
-        accepted-steps t (λ f. omega arith)
+        accepted_steps t (λ f. omega arith)
         (λ L h. subst⁻¹ (λ (M : List Entry). Holds b M t) (push-back (book_of b) L o k (accepted L h)) (rw em at (n b L h)))
 
     -- a kind without effect

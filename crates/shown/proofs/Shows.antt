@@ -11,7 +11,7 @@ use Rattle.model.specs.Books.{column_count}
 use Rattle.model.specs.Orders.{Entry, depth, domains, kind, push, try_limit}
 use Rattle.model.proofs.Answers.{domain_bytes_same, outcome_finish, outcome_other}
 use Rattle.model.proofs.Refusals.{push_finish, push_ind, push_refused}
-use Rattle.model.proofs.Trails.{domains-checkpoint}
+use Rattle.model.proofs.Trails.{domains_checkpoint}
 use Rattle.book.specs.Decoding.{book_of}
 use Rattle.engine.specs.States.{StateIs}
 use Rattle.engine.specs.declared.state.State.{State}
@@ -55,7 +55,7 @@ module _ {b : List ℕ} (x : List ℕ) {r : ℕ} {t : Summary} {st : State} wher
   -- a mark and a finish change no domain
   pub told_same : (kind x ≡ 2) ⊎ (kind x ≡ 4) → TellsAfter b x r t st t
   told_same k L e h s =
-      push_ind (book_of b) L x (λ M. SummaryIs b M t) h (λ q z. absurd (other k q (inl refl))) (λ q z. summary_like (sym (domains-checkpoint (book_of b) L)) h)
+      push_ind (book_of b) L x (λ M. SummaryIs b M t) h (λ q z. absurd (other k q (inl refl))) (λ q z. summary_like (sym (domains_checkpoint (book_of b) L)) h)
       (λ q z. absurd (other k q (inr refl)))
     where
       other : (kind x ≡ 2) ⊎ (kind x ≡ 4) → {n : ℕ} → kind x ≡ n → (n ≡ 1) ⊎ (n ≡ 3) → ⊥

@@ -20,14 +20,14 @@ mask_none f = refl
 
 pub mask_more : {m w : ℕ} (n : ℕ) (f : ℕ → Bool) → m ≡ mask_of n f → w ≡ cond (f n) (2 ^ n) 0 → bit_or m w ≡ mask_of (n + 1) f
 mask_more {m} {w} n f e g =
-    mask_ext (n + 1) (bit_or m w) (mask_of (n + 1) f) (or_lt (n + 1) m w small-m small-w) (mask_of_lt (n + 1) f)
+    mask_ext (n + 1) (bit_or m w) (mask_of (n + 1) f) (or_lt (n + 1) m w small_m small_w) (mask_of_lt (n + 1) f)
     (λ v l. bit-or v m w ∙ at v l (below v n) (either (f n)) ∙ sym (bit-mask_of (n + 1) f v l))
   where
     grows : 2 ^ n < 2 ^ (n + 1)
     grows = pow-lt (omega arith)
 
-    small-m : m < 2 ^ (n + 1)
-    small-m = omega (arith, mask_of_lt n f, grows)
+    small_m : m < 2 ^ (n + 1)
+    small_m = omega (arith, mask_of_lt n f, grows)
 
     pick : (f n ≡ true) ⊎ (f n ≡ false) → (w ≡ 2 ^ n) ⊎ (w ≡ 0)
     pick (inl p) = inl (g ∙ rw p refl)
@@ -37,8 +37,8 @@ mask_more {m} {w} n f e g =
     bounded (inl p) = rw p grows
     bounded (inr p) = omega (arith, grows)
 
-    small-w : w < 2 ^ (n + 1)
-    small-w = bounded (pick (either (f n)))
+    small_w : w < 2 ^ (n + 1)
+    small_w = bounded (pick (either (f n)))
 
     at : (v : ℕ) → v < n + 1 → (v < n) ⊎ (n ≤ v) → (f n ≡ true) ⊎ (f n ≡ false) → (bit v m || bit v w) ≡ f v
     at v l (inl p) (inl q) =

@@ -69,14 +69,14 @@ module _ {b : List ℕ} (acc : Accepted b) {D W X N : List ℕ} (o : OpenState b
   unfolding has
   filled c l = let r = o.consistent.filled c (omega (arith, columns_count b)) in (r.0, ap (bit r.0) (o.state.domain c) ∙ r.1)
 
-  all-filled : all_filled (column_count (book_of b)) (store_in b D) ≡ true
-  all-filled = filled_i C E (is_store_in b o.store) o.consistent.filled
+  all_filled_lem : all_filled (column_count (book_of b)) (store_in b D) ≡ true
+  all_filled_lem = filled_i C E (is_store_in b o.store) o.consistent.filled
 
   module _ {Z : List ℕ} (z : SizesTo D 16 Z) where
     -- each column holds one value exactly when none has more
-    assigned-closed : assigned (book_of b) (store_in b D) ≡ not (any_below 16 (is_many Z))
+    assigned_closed : assigned (book_of b) (store_in b D) ≡ not (any_below 16 (is_many Z))
     unfolding assigned
-    assigned-closed = go (either (any_below 16 (is_many Z)))
+    assigned_closed = go (either (any_below 16 (is_many Z)))
       where
         sized : (c : ℕ) → c < columns_of b → get_or Z c 0 ≡ size (get_or E c 0)
         sized c l = z.at c (omega (arith, few_columns)) ∙ ap size (o.state.domain c)
@@ -105,21 +105,21 @@ module _ {b : List ℕ} (acc : Accepted b) {D W X N : List ℕ} (o : OpenState b
             (all_below_i C (λ c. eqb (size (get_or E c 0)) 1)
             (λ c l.
             let k : c < columns_of b = omega (arith, columns_count b) in
-            let few : get_or Z c 0 ≤ 1 = ltb-false 1 _ (none-many c (omega (arith, few_columns)) (either (is_many Z c))) in
+            let few : get_or Z c 0 ≤ 1 = ltb-false 1 _ (none_many c (omega (arith, few_columns)) (either (is_many Z c))) in
             let v = filled c k in
             let some = filled_size (get_or D c 0) (some_value _ v.0 v.1) (o.store.bits c) in
             eq-eqb (size (get_or E c 0)) 1 (one (size (get_or E c 0)) (omega (arith, few, sized c k)) (omega (arith, some, ap size (o.state.domain c))))))
           where
-            none-many : (c : ℕ) → c < 16 → (is_many Z c ≡ true) ⊎ (is_many Z c ≡ false) → is_many Z c ≡ false
-            none-many c l (inl t) = absurd (true≢false (sym (any_below_i 16 (is_many Z) c l t) ∙ e))
-            none-many c l (inr t) = t
+            none_many : (c : ℕ) → c < 16 → (is_many Z c ≡ true) ⊎ (is_many Z c ≡ false) → is_many Z c ≡ false
+            none_many c l (inl t) = absurd (true≢false (sym (any_below_i 16 (is_many Z) c l t) ∙ e))
+            none_many c l (inr t) = t
 
             one : (x : ℕ) → x ≤ 1 → 0 < x → x ≡ 1
             one x p q = omega arith
 
     pub status_open : open_status Z ≡ status_of (book_of b) (store_in b D)
     unfolding open_status status_of
-    status_open = sym (rw (all-filled, assigned-closed) (flip (any_below 16 (is_many Z))))
+    status_open = sym (rw (all_filled_lem, assigned_closed) (flip (any_below 16 (is_many Z))))
       where
         flip : (t : Bool) → ◌≡◌ {A = ℕ} (cond (not t) 2 1) (cond t 1 2)
         flip true = refl
@@ -135,11 +135,11 @@ module _ {b : List ℕ} (acc : Accepted b) {D W X N : List ℕ} (o : OpenState b
     inside = omega (arith, a.one, length-tab (sheets_of b) (sheet_of b))
 
     -- the array and the store have the same domains
-    same-picks : pick D sheet.columns ≡ pick (store_in b D) sheet.columns
-    same-picks = pick_same D E sheet.columns (λ i l. o.state.domain (get_or sheet.columns i 0))
+    same_picks : pick D sheet.columns ≡ pick (store_in b D) sheet.columns
+    same_picks = pick_same D E sheet.columns (λ i l. o.state.domain (get_or sheet.columns i 0))
 
-    rows-valid : (w : ℕ) → w < 8 → of_sheet W s w ≡ valid_word D sheet w
-    rows-valid w l = o.state.rows s w inside l ∙ words_same E D sheet (sym same-picks) w
+    rows_valid : (w : ℕ) → w < 8 → of_sheet W s w ≡ valid_word D sheet w
+    rows_valid w l = o.state.rows s w inside l ∙ words_same E D sheet (sym same_picks) w
 
     pub sheet_words : SheetWords b s W X N
     unfolding is_set
@@ -148,23 +148,23 @@ module _ {b : List ℕ} (acc : Accepted b) {D W X N : List ℕ} (o : OpenState b
         at : (r : ℕ) → r < 512 → is_set W s r ≡ true → r < rows_of b s
         at r l e =
             let z : 64 * (r / 64) + r % 64 ≡ r = omega arith in
-            (valid_e a D r (rw (rows-valid (r / 64) (omega arith), word_row D sheet (r / 64) (r % 64) (omega arith), z) at e)).0
+            (valid_e a D r (rw (rows_valid (r / 64) (omega arith), word_row D sheet (r / 64) (r % 64) (omega arith), z) at e)).0
 
     pub settled_sheet : SettledSheet b s D W
     settled_sheet = record {
-      rows = rows-valid;
+      rows = rows_valid;
       filled = λ j l. filled (column_of b s j) (column_inside b (accepted_right b acc).head s a.one j l);
     }
 
     -- with at most one open column every choice is allowed
     pub few_open : {Z : List ℕ} → SizesTo D 16 Z → open_places b s Z (width_of b s) ≤ 1 → subsumed D sheet ≡ true
     few_open {Z} z n =
-        subsumed_same D E sheet same-picks
+        subsumed_same D E sheet same_picks
         ∙ (subsumed_iff E (is_store_in b o.store).bits sheet).1
         (one_open (book_of b) E (is_store_in b o.store).bits o.consistent sheet (sheet_in a) (omega (arith, columns_size a, (width_most a).0)) two)
       where
-        open-place : (j : ℕ) → j < width_of b s → ltb 1 (size (get_or E (get_or sheet.columns j 0) 0)) ≡ true → is_many Z (column_of b s j) ≡ true
-        open-place j l q =
+        open_place : (j : ℕ) → j < width_of b s → ltb 1 (size (get_or E (get_or sheet.columns j 0) 0)) ≡ true → is_many Z (column_of b s j) ≡ true
+        open_place j l q =
             ap (ltb 1) (z.at (column_of b s j) (column_below a j l) ∙ ap size (o.state.domain (column_of b s j))) ∙ (rw (column_value a j l) at q)
 
         two : (i j : ℕ) → i < j → j < length sheet.columns → ltb 1 (size (get_or E (get_or sheet.columns i 0) 0)) ≡ true
@@ -172,23 +172,23 @@ module _ {b : List ℕ} (acc : Accepted b) {D W X N : List ℕ} (o : OpenState b
         two i j p q u v =
             let lj : j < width_of b s = omega (arith, columns_size a) in
             let li : i < width_of b s = omega arith in
-            let most = two_count (width_of b s) (λ j. is_many Z (column_of b s j)) i j li lj (open-place i li u) (open-place j lj v) (λ e. omega arith) in
+            let most = two_count (width_of b s) (λ j. is_many Z (column_of b s j)) i j li lj (open_place i li u) (open_place j lj v) (λ e. omega arith) in
             omega (arith, n, most)
 
   pub done_open : done_sheets b D (sheets_of b) ≡ done_of (book_of b) (store_in b D)
   unfolding done_sheets done_of book_of
   done_open =
       sym
-      (rw (all-filled)
+      (rw (all_filled_lem)
       (ap (λ (n : ℕ). mask_of n (λ s. subsumed E (sheet_at (book_of b) s))) (length-tab (sheets_of b) (sheet_of b))
       ∙ mask_of_same (sheets_of b) (λ s. subsumed E (sheet_at (book_of b) s)) (λ s. subsumed D (sheet_at (book_of b) s))
-      (λ s l. sym (subsumed_same D E (sheet_at (book_of b) s) (same-picks (record { accepted = acc; one = l; begins = refl }))))))
+      (λ s l. sym (subsumed_same D E (sheet_at (book_of b) s) (same_picks (record { accepted = acc; one = l; begins = refl }))))))
 
 -- ---- the state of a trail
 module _ {b : List ℕ} (acc : Accepted b) {L : List Entry} {st : State} (h : StateIs b L st) where
   -- its array has the current domains
-  state-store : store_in b st.dom ≡ domains (book_of b) L
-  state-store = store_is b st.dom (domains (book_of b) L) (domains_store (book_of b) L) h.holds.domain
+  state_store : store_in b st.dom ≡ domains (book_of b) L
+  state_store = store_is b st.dom (domains (book_of b) L) (domains_store (book_of b) L) h.holds.domain
 
   closed : ConsistentStore (book_of b) (domains (book_of b) L) ⊎ (domains (book_of b) L ≡ empty_store (column_count (book_of b)))
   unfolding domains
@@ -202,13 +202,13 @@ module _ {b : List ℕ} (acc : Accepted b) {L : List Entry} {st : State} (h : St
     where
       go : ConsistentStore (book_of b) (domains (book_of b) L) ⊎ (domains (book_of b) L ≡ empty_store (column_count (book_of b)))
           → OpenState b st.dom st.valid st.index st.nonzero
-      go (inl k) = record { store = h.store; sized = h.sized; consistent = rw state-store k; state = rw state-store h.holds }
+      go (inl k) = record { store = h.store; sized = h.sized; consistent = rw state_store k; state = rw state_store h.holds }
       go (inr e) = absurd (n (h.holds.domain 0 ∙ ap (λ (D : List ℕ). get_or D 0 0) e ∙ no_value b acc 0))
 
   -- no column of a failed state has a value
-  not-filled : get_or st.dom 0 0 ≡ 0 → all_filled (column_count (book_of b)) (domains (book_of b) L) ≡ false
+  not_filled : get_or st.dom 0 0 ≡ 0 → all_filled (column_count (book_of b)) (domains (book_of b) L) ≡ false
   unfolding has
-  not-filled e = go (either (all_filled (column_count (book_of b)) (domains (book_of b) L)))
+  not_filled e = go (either (all_filled (column_count (book_of b)) (domains (book_of b) L)))
     where
       go : (all_filled (column_count (book_of b)) (domains (book_of b) L) ≡ true) ⊎ (all_filled (column_count (book_of b)) (domains (book_of b) L) ≡ false)
           → all_filled (column_count (book_of b)) (domains (book_of b) L) ≡ false
@@ -219,11 +219,11 @@ module _ {b : List ℕ} (acc : Accepted b) {L : List Entry} {st : State} (h : St
 
   pub failed_summary : get_or st.dom 0 0 ≡ 0 → (r : Summary) → r.status ≡ 0 → r.done ≡ 0 → SummaryIs b L r
   unfolding status_of done_of
-  failed_summary e r p q = record { status = p ∙ sym (rw (not-filled e) refl); done = q ∙ sym (rw (not-filled e) refl) }
+  failed_summary e r p q = record { status = p ∙ sym (rw (not_filled e) refl); done = q ∙ sym (rw (not_filled e) refl) }
 
   pub open_summary : (get_or st.dom 0 0 ≡ 0 → ⊥) → {Z : List ℕ} → SizesTo st.dom 16 Z → (r : Summary) → r.status ≡ open_status Z
       → r.done ≡ done_sheets b st.dom (sheets_of b) → SummaryIs b L r
   open_summary n z r p q = record {
-    status = p ∙ status_open acc (is_open n) z ∙ ap (status_of (book_of b)) state-store;
-    done = q ∙ done_open acc (is_open n) ∙ ap (done_of (book_of b)) state-store;
+    status = p ∙ status_open acc (is_open n) z ∙ ap (status_of (book_of b)) state_store;
+    done = q ∙ done_open acc (is_open n) ∙ ap (done_of (book_of b)) state_store;
   }

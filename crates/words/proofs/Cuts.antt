@@ -87,8 +87,8 @@ module _ {s : ℕ} (eight : s < 8) {p : ℕ} {W X N : List ℕ} (h : IndexOf s W
   small : p < 8
   small = omega (arith, h.few)
 
-  w-small : w < 8
-  w-small = rw ew (h.each p small)
+  w_small : w < 8
+  w_small = rw ew (h.each p small)
 
   kept_here : (W' : List ℕ) → of_sheet W' s w ≡ keep → WordKept test (of_sheet X s p) (of_sheet W s (of_sheet X s p)) (of_sheet W' s (of_sheet X s p))
   kept_here W' e = rw (← ew, e, ← eword) k
@@ -107,51 +107,51 @@ module _ {s : ℕ} (eight : s < 8) {p : ℕ} {W X N : List ℕ} (h : IndexOf s W
   }
 
   module _ (keep-fits : keep < 2 ^ 64) where
-    set-bits : (i : ℕ) → get_or (set W (8 * s + w) keep) i 0 < 2 ^ 64
-    set-bits i = set_below W (8 * s + w) keep (2 ^ 64) keep-fits size.bits i
+    set_bits : (i : ℕ) → get_or (set W (8 * s + w) keep) i 0 < 2 ^ 64
+    set_bits i = set_below W (8 * s + w) keep (2 ^ 64) keep-fits size.bits i
 
     here : of_sheet (set W (8 * s + w) keep) s w ≡ keep
-    here = of_set_same W s w keep w-small (omega (arith, eight, w-small, size.words))
+    here = of_set_same W s w keep w_small (omega (arith, eight, w_small, size.words))
 
     there : (t i : ℕ) → i < 8 → (t ≡ s → i ≡ w → ⊥) → of_sheet (set W (8 * s + w) keep) t i ≡ of_sheet W t i
-    there t i q n = of_set_other W s w keep w-small t i q n
+    there t i q n = of_set_other W s w keep w_small t i q n
 
-    rest-same : (i : ℕ) → i < 8 → (i ≡ of_sheet X s p → ⊥) → of_sheet (set W (8 * s + w) keep) s i ≡ of_sheet W s i
-    rest-same i q n = there s i q (λ z e. n (e ∙ ew))
+    rest_same : (i : ℕ) → i < 8 → (i ≡ of_sheet X s p → ⊥) → of_sheet (set W (8 * s + w) keep) s i ≡ of_sheet W s i
+    rest_same i q n = there s i q (λ z e. n (e ∙ ew))
 
     -- some rows are left
     pub word_less : 0 < keep → WordCut test s p W X N (set W (8 * s + w) keep) X N
     word_less q = record {
       word = kept_here (set W (8 * s + w) keep) here;
-      rest = rest-same;
+      rest = rest_same;
       before = λ i r. refl;
       after = λ i r z. (i, r, z, refl);
-      indexed = index_kept h p l (of_sheet (set W (8 * s + w) keep) s) rest-same (rw (← ew, here) q);
+      indexed = index_kept h p l (of_sheet (set W (8 * s + w) keep) s) rest_same (rw (← ew, here) q);
       limit = omega arith;
       only = record { words = λ t i r n. there t i r (λ z e. n z); index = λ t i r n. refl; nonzero = λ t n. refl };
-      sized = record { words = length-set W (8 * s + w) keep ∙ size.words; bits = set-bits; index = size.index; nonzero = size.nonzero };
+      sized = record { words = length-set W (8 * s + w) keep ∙ size.words; bits = set_bits; index = size.index; nonzero = size.nonzero };
     }
 
     -- none is left
     pub word_zero : keep ≡ 0 → WordCut test s p W X N (set W (8 * s + w) keep) (swapped X (8 * s + p) (8 * s + (get_or N s 0 - 1))) (set N s (get_or N s 0 - 1))
     word_zero z = record {
       word = kept_here (set W (8 * s + w) keep) here;
-      rest = rest-same;
-      before = λ i r. of_swapped X s p q small q-small there-x i ∙ ap (of_sheet X s) (other_rest p q i (λ e. omega arith) (λ e. omega arith));
-      after = λ i r y. (other p q i, from i r, other_lt p q i 8 small q-small y, of_swapped X s p q small q-small there-x i);
+      rest = rest_same;
+      before = λ i r. of_swapped X s p q small q_small there_x i ∙ ap (of_sheet X s) (other_rest p q i (λ e. omega arith) (λ e. omega arith));
+      after = λ i r y. (other p q i, from i r, other_lt p q i 8 small q_small y, of_swapped X s p q small q_small there_x i);
       indexed =
           rw (get_or-set_same N s q 0 (omega (arith, eight, size.nonzero)))
-          (index_dropped h p l (of_sheet (set W (8 * s + w) keep) s) rest-same (ap (of_sheet (set W (8 * s + w) keep) s) (sym ew) ∙ here ∙ z)
-          (of_sheet (swapped X (8 * s + p) (8 * s + q)) s) (of_swapped X s p q small q-small there-x));
+          (index_dropped h p l (of_sheet (set W (8 * s + w) keep) s) rest_same (ap (of_sheet (set W (8 * s + w) keep) s) (sym ew) ∙ here ∙ z)
+          (of_sheet (swapped X (8 * s + p) (8 * s + q)) s) (of_swapped X s p q small q_small there_x));
       limit = rw (get_or-set_same N s q 0 (omega (arith, eight, size.nonzero))) (omega arith);
       only = record {
         words = λ t i r n. there t i r (λ y e. n y);
-        index = λ t i r n. of_swapped_other X s p q small q-small there-x t i r n;
+        index = λ t i r n. of_swapped_other X s p q small q_small there_x t i r n;
         nonzero = λ t n. get_or-set_other N s t q 0 n;
       };
       sized = record {
         words = length-set W (8 * s + w) keep ∙ size.words;
-        bits = set-bits;
+        bits = set_bits;
         index = length-swapped X (8 * s + p) (8 * s + q) ∙ size.index;
         nonzero = length-set N s q ∙ size.nonzero;
       };
@@ -160,11 +160,11 @@ module _ {s : ℕ} (eight : s < 8) {p : ℕ} {W X N : List ℕ} (h : IndexOf s W
         q : ℕ
         q = get_or N s 0 - 1
 
-        q-small : q < 8
-        q-small = omega (arith, h.few)
+        q_small : q < 8
+        q_small = omega (arith, h.few)
 
-        there-x : 8 * s + 8 ≤ length X
-        there-x = omega (arith, eight, size.index)
+        there_x : 8 * s + 8 ≤ length X
+        there_x = omega (arith, eight, size.index)
 
         from : (i : ℕ) → p ≤ i → p ≤ other p q i
         from i r = go (where_is p q i)

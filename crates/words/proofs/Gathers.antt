@@ -44,8 +44,8 @@ none_outside x y lx ly h v e = go (either (bit v y))
         (sym (h v) ∙ bit-and v x (ones32 - y) ∙ and_i e (complement 32 y v ly (bit_below 32 x v lx e) ∙ ap not p)))
 
 -- the same, as the code tests it
-pub nothing-outside : (x y : ℕ) → x < 2 ^ 32 → y < 2 ^ 32 → not (eqb (bit_and x (ones32 - y)) 0) ≡ false → (v : ℕ) → bit v x ≡ true → bit v y ≡ true
-nothing-outside x y lx ly e = none_outside x y lx ly (λ v. ap (bit v) (eqb-true _ 0 (not-false _ e)) ∙ bit_of_zero v)
+pub nothing_outside : (x y : ℕ) → x < 2 ^ 32 → y < 2 ^ 32 → not (eqb (bit_and x (ones32 - y)) 0) ≡ false → (v : ℕ) → bit v x ≡ true → bit v y ≡ true
+nothing_outside x y lx ly e = none_outside x y lx ly (λ v. ap (bit v) (eqb-true _ 0 (not-false _ e)) ∙ bit_of_zero v)
 
 pub covered_four : (x0 x1 x2 x3 y0 y1 y2 y3 : ℕ) → ((x0 < 2 ^ 32) × (x1 < 2 ^ 32) × (x2 < 2 ^ 32) × (x3 < 2 ^ 32))
     → ((y0 < 2 ^ 32) × (y1 < 2 ^ 32) × (y2 < 2 ^ 32) × (y3 < 2 ^ 32))
@@ -267,36 +267,36 @@ module _ {b : List ℕ} {begin s : ℕ} (a : AtSheet b begin s) {W X N : List �
       go i v (inr q) l e k = let z : i ≡ j = omega arith in rw z (f v (rw z at e) (rw z at k))
 
   -- a support that has no 255 has been seen
-  plain-support : {y : List ℕ} {j v : ℕ} → PlainSeen b s W y → j < 4 → (k : SetSupport b s W j v) → is_any (value_at b s k.row j) ≡ false
+  plain_support : {y : List ℕ} {j v : ℕ} → PlainSeen b s W y → j < 4 → (k : SetSupport b s W j v) → is_any (value_at b s k.row j) ≡ false
       → bit v (get_or y j 0) ≡ true
-  plain-support {y} {j} {v} p l k n =
+  plain_support {y} {j} {v} p l k n =
       rw (plain_low (set_cell k.row j k.small l k.set_row) n k.value) at (p.cells k.row j k.small l k.set_row)
 
   -- so has every one where the sheet has no 255 at the place
-  short-support : {y : List ℕ} {j v shorts : ℕ} → ShortPlaces b s shorts → bit (8 * j + 7) shorts ≡ false → PlainSeen b s W y → j < 4
+  short_support : {y : List ℕ} {j v shorts : ℕ} → ShortPlaces b s shorts → bit (8 * j + 7) shorts ≡ false → PlainSeen b s W y → j < 4
       → SetSupport b s W j v → bit v (get_or y j 0) ≡ true
-  short-support {y} {j} {v} {shorts} c n p l k = go (either (is_any (value_at b s k.row j)))
+  short_support {y} {j} {v} {shorts} c n p l k = go (either (is_any (value_at b s k.row j)))
     where
       go : (is_any (value_at b s k.row j) ≡ true) ⊎ (is_any (value_at b s k.row j) ≡ false) → bit v (get_or y j 0) ≡ true
-      go (inr e) = plain-support p l k e
+      go (inr e) = plain_support p l k e
       go (inl e) = absurd (false≢true (sym n ∙ c.at k.row j (h.inside.at k.row k.small k.set_row) l e))
 
   -- no 255 in the sheet
   pub supported_plain : {x y : List ℕ} {shorts : ℕ} → shorts ≡ 0 → ShortPlaces b s shorts → PlainSeen b s W y → Supported b s W x y
   supported_plain z c p =
-      record { sound = p.sound; complete = λ j v l e k. short-support c (ap (bit (8 * j + 7)) z ∙ bit_of_zero (8 * j + 7)) p l k }
+      record { sound = p.sound; complete = λ j v l e k. short_support c (ap (bit (8 * j + 7)) z ∙ bit_of_zero (8 * j + 7)) p l k }
 
   -- no 255 at the place, or nothing missing
   pub widened_same : {x y : List ℕ} {j shorts : ℕ} → j < 4 → ShortPlaces b s shorts → NothingMissed shorts j (get_or x j 0) (get_or y j 0)
       → Widened b s W x y j → Widened b s W x y (j + 1)
   widened_same l c (inr f) p = widened_more p (λ v e k. f v e)
-  widened_same l c (inl n) p = widened_more p (λ v e k. short-support c n p.plain l k)
+  widened_same l c (inl n) p = widened_more p (λ v e k. short_support c n p.plain l k)
 
   pub widened_none : {x y : List ℕ} {j : ℕ} → j < 4 → Finds (any_at b s W j) 0 512 false → Widened b s W x y j → Widened b s W x y (j + 1)
   unfolding any_at
   widened_none {x} {y} {j} l f p =
       widened_more p
-      (λ v e k. plain-support p.plain l k (rw k.set_row at ((f.none refl).at k.row (omega arith) k.small)))
+      (λ v e k. plain_support p.plain l k (rw k.set_row at ((f.none refl).at k.row (omega arith) k.small)))
 
   -- a row that is set has 255 there: every value has support
   pub widened_all : {x y : List ℕ} {j : ℕ} → j < 4 → SmallSets x → Finds (any_at b s W j) 0 512 true → Widened b s W x y j

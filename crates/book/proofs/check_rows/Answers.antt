@@ -31,9 +31,9 @@ first_fall-f-requires c =
 pub returns-then-f-ne0 : goal.returns-then-f-ne0
 returns-then-f-ne0 c =
     let needed : blocks_needed c.args.book.now ≡ block_count c.args.book.now = sym c.blocks_needed-needed.ensures.0 ∙ c.if-needed-book.false in
-    let no-fault : first_fault c.args.book.now ≡ clean = number_zero _ (sym c.first_fault-n.ensures ∙ c.if-n-ne0.false) in
+    let no_fault : first_fault c.args.book.now ≡ clean = number_zero _ (sym c.first_fault-n.ensures ∙ c.if-n-ne0.false) in
     c.first_fall-f.ensures
-    ∙ sym (result_order _ c.requires.0 c.requires.1 c.requires.2 needed no-fault (λ e. c.if-f-ne0.true (c.first_fall-f.ensures ∙ e)))
+    ∙ sym (result_order _ c.requires.0 c.requires.1 c.requires.2 needed no_fault (λ e. c.if-f-ne0.true (c.first_fall-f.ensures ∙ e)))
 
 pub columns-requires : goal.columns-requires
 columns-requires c = head_there _ c.requires.0
@@ -44,6 +44,6 @@ sheets-requires c = head_there _ c.requires.0
 pub returns : goal.returns
 returns c =
     let needed : blocks_needed c.args.book.now ≡ block_count c.args.book.now = sym c.blocks_needed-needed.ensures.0 ∙ c.if-needed-book.false in
-    let no-fault : first_fault c.args.book.now ≡ clean = number_zero _ (sym c.first_fault-n.ensures ∙ c.if-n-ne0.false) in
+    let no_fault : first_fault c.args.book.now ≡ clean = number_zero _ (sym c.first_fault-n.ensures ∙ c.if-n-ne0.false) in
     rw (c.columns.ensures.0, c.sheets.ensures.0)
-    (sym (result_accepted _ c.requires.0 c.requires.1 c.requires.2 needed no-fault (sym c.first_fall-f.ensures ∙ c.if-f-ne0.false)))
+    (sym (result_accepted _ c.requires.0 c.requires.1 c.requires.2 needed no_fault (sym c.first_fall-f.ensures ∙ c.if-f-ne0.false)))

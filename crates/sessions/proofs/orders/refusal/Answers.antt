@@ -3,7 +3,7 @@ use mathlib.Core.Bool.{Bool}
 use Prim.Native.Nat.{ℕ}
 use mathlib.Core.List.{List}
 use Rattle.model.specs.Orders.{back_causes, first_cause, kind, mark_causes, some_wrong, zero_places}
-use Rattle.model.proofs.Refusals.{refusal-back, refusal_finish, refusal-mark, refusal-narrow, refusal_other, refusal-zero}
+use Rattle.model.proofs.Refusals.{refusal-back, refusal_finish, refusal-mark, refusal-narrow, refusal_other, refusal_zero}
 use Rattle.sessions.proofs.orders.refusal.Goals as goal
 
 -- what the look at the bytes says
@@ -11,7 +11,7 @@ looked : (o : List ℕ) {z : ℕ} {r t : Bool} → z ≡ zero_places (kind o) �
 looked o e f g = rw (← e) (sym f ∙ g)
 
 pub returns-then-some_wrong : goal.returns-then-some_wrong
-returns-then-some_wrong c = λ s d L h. sym (refusal-zero _ L _ (looked c.args.order.now c.zero_places.ensures c.some_wrong.ensures c.if-some_wrong.true))
+returns-then-some_wrong c = λ s d L h. sym (refusal_zero _ L _ (looked c.args.order.now c.zero_places.ensures c.some_wrong.ensures c.if-some_wrong.true))
 
 pub returns-then-kind-eq1 : goal.returns-then-kind-eq1
 returns-then-kind-eq1 c = λ s d L h. c.refused_narrow.ensures ∙ sym (refusal-narrow _ L _ (looked c.args.order.now c.zero_places.ensures c.some_wrong.ensures c.if-some_wrong.false) c.if-kind-eq1.true)

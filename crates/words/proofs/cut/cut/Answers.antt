@@ -6,10 +6,10 @@ use Rattle.words.proofs.Places.{eight}
 use Rattle.words.proofs.cut.cut.Goals as goal
 
 pub nonzero_words-p-requires : goal.nonzero_words-p-requires
-nonzero_words-p-requires c = eight c.before.requires.0
+nonzero_words-p-requires c = eight c.requires.0
 
 pub loop-p-init : goal.loop-p-init
-loop-p-init c = (cutting_start _ c.before.requires.2 c.nonzero_words-p.ensures.0, c.before.requires.2)
+loop-p-init c = (cutting_start _ c.requires.2 c.nonzero_words-p.ensures.0, c.requires.2)
 
 pub loop-p-preserved : goal.loop-p-preserved
 loop-p-preserved c = let e : c.loop-p.p ≡ c.loop-p.p - 1 + 1 = omega (arith, c.loop-p-test.true) in

@@ -1,5 +1,5 @@
 -- Tests over the numbers below a bound and over the elements of a list, counts and the lowest number that passes.
-use Rattle.std.specs.Prelude.{◌≡◌, Bool, true, false, cond, ◌&&◌, ◌||◌, List, [], ◌∷◌, ℕ, zero, suc, ◌+◌, ◌≤◌, ◌<◌, eqb}
+use Rattle.std.specs.Prelude.{◌≡◌, Bool, true, false, cond, ◌&&◌, ◌||◌, List, [], ◌∷◌, Option, MatchOption, ℕ, zero, suc, ◌+◌, ◌≤◌, ◌<◌, eqb}
 
 -- every number below the bound passes
 unfoldable pub all_below : ℕ → (ℕ → Bool) → Bool
@@ -57,6 +57,10 @@ pub record FirstIn (f : ℕ → Bool) (a e r : ℕ) : Type 0 where
   pub to : r ≤ e
   pub none : NoneIn f a r
   pub passes : r < e → f r ≡ true
+
+-- o is the first number from a on and below e that passes, or nothing where none does: what a search for it gives
+abbrev pub FirstOf : (ℕ → Bool) → ℕ → ℕ → Option ℕ → Type 0
+FirstOf f a e o = MatchOption o (NoneIn f a e) (λ r. (r < e) × FirstIn f a e r)
 
 -- r tells whether some number from a on and below e passes
 pub record Finds (f : ℕ → Bool) (a e : ℕ) (r : Bool) : Type 0 where

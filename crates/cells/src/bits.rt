@@ -1,9 +1,9 @@
 // Masks as machine words: their lowest place, and a mask without it.
-ghost use Rattle.std.specs.Prelude.{◌≡◌, true, ◌-◌, ◌/◌, ◌%◌, ◌^◌, ◌<◌, ltb, MatchOption};
+ghost use Rattle.std.specs.Prelude.{◌≡◌, true, ◌-◌, ◌/◌, ◌%◌, ◌^◌, ◌<◌, ltb};
 ghost use Rattle.std.specs.Int.Count.{count_trailing_zeros};
 ghost use Rattle.std.specs.Iterator.{at_most};
 ghost use Rattle.model.specs.Masks.{bit, size, Cleared};
-ghost use Rattle.cells.specs.Places.{Taken};
+ghost use Rattle.cells.specs.Places.{TakesLowest};
 
 // The lowest place of x.
 pub fn lowest(x: u64) -> u32
@@ -27,17 +27,18 @@ pub struct Places {
     pub left: u64,
 }
 
-// The places of x.
-pub fn places(x: u64) -> Places
-    ensures { result.left ≡ x }
-{
-    Places { left: x }
+impl Places {
+    pub fn of(x: u64) -> Places
+        ensures { result.left ≡ x }
+    {
+        Places { left: x }
+    }
 }
 
 impl Iterator for Places {
     type Item = u32;
 
-    ghost next_gives = { λ s r t. MatchOption r ((s.left ≡ 0) × (t.left ≡ 0)) (λ i. Taken s.left i t.left) };
+    ghost next_gives = { λ s r t. TakesLowest s.left r t.left };
 
     ghost remaining = { λ s. at_most s.left };
 

@@ -16,7 +16,10 @@ ghost use Rattle.runs.specs.Results.{run_result, run_space};
 pub fn fitting_check(book: &[u8]) -> u64
     ensures { result ≡ check_result book.now }
 {
-    book::check(book)
+    match book::check(book) {
+        Ok(accepted) => accepted.number(),
+        Err(refusal) => refusal.number(),
+    }
 }
 
 pub fn fitting_run(book: &[u8], orders: &[u8], answers: &mut [u8]) -> u64

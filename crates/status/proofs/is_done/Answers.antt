@@ -3,7 +3,7 @@ use native.Mathlib.Omega.{arith}
 use borrow.Author.Rules.{rules}
 use Rattle.cells.proofs.Walks.{shifted_one}
 use Rattle.words.proofs.Places.{eight, is_sheet}
-use Rattle.status.proofs.Status.{few_open, settled_sheet, sheet_words}
+use Rattle.status.proofs.Summaries.{few_open, settled_sheet, sheet_words}
 use Rattle.status.proofs.done_bit.Goals as goal
 
 pub open_places-requires : goal.open_places-requires

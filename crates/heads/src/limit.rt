@@ -23,7 +23,11 @@ pub fn any_set(b: &[u8], a: usize, e: usize) -> bool
     requires { (a ≤ e) × (e ≤ length b.now) }
     ensures { Finds (set_at b.now) a e result }
 {
-    b[a..e].iter().fold(0, |x, y| x | *y) != 0
+    let mut x: u8 = 0;
+    for i in a..e {
+        x |= b[i];
+    }
+    x != 0
 }
 
 // The first byte from a on and below e that is not zero: looked for only where there is one.

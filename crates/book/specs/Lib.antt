@@ -2,6 +2,7 @@
 -- the book that the bytes stand for; heads and rows are those of crates heads and rows. Numbers is for those who read the code; Acceptance has worked
 -- examples. Nothing here is proved: the laws stand in proofs/.
 pub mod Verdicts
+pub mod Refusals
 pub mod Places
 pub mod Decoding
 pub mod Numbers

@@ -1,74 +1,78 @@
 // The first fault of the rows, and its refusal: the first wrong block is looked at once more, row by row, and its wrong row byte by byte.
-ghost use Rattle.std.specs.Prelude.{◌≡◌, ◌+◌, ◌*◌, ◌<◌, ◌≤◌, length};
-ghost use Rattle.heads.specs.Blocks.{RightLength, block_count};
-ghost use Rattle.heads.specs.Heads.{sheets_of, RightHead};
-ghost use Rattle.rows.specs.Rows.{blocks_needed, blocks_of, fault_at, fault_in_block, first_block, first_fault, is_value};
-ghost use Rattle.rows.specs.Bounds.{SheetThere};
-ghost use Rattle.book.specs.Numbers.{fault_number};
+ghost use Rattle.std.specs.Prelude.{◌≡◌, ◌+◌, ◌*◌, ◌<◌, ◌≤◌, IfErr, IfOk, false, true};
+ghost use Rattle.model.specs.Tests.{FirstOf};
+ghost use Rattle.heads.specs.Heads.{RightHead, sheets_of};
+ghost use Rattle.rows.specs.Rows.{blocks_of, clean, fault_at, fault_in_block, first_fault, is_value, fault_in_sheet, wrong_byte, wrong_sheet};
+ghost use Rattle.book.specs.Refusals.{verdict_of};
+ghost use Rattle.book.specs.Verdicts.{row_verdict};
 
-use crate::refusal;
+use crate::refused::Refusal;
 use faults::doubt::*;
+use faults::sheet::*;
 use faults::wrong::*;
 use heads::block::*;
 use heads::head::*;
 use rows::row::*;
 
 // Whether byte j of row r of sheet s is a value.
-fn is_value(book: &[u8], s: usize, r: usize, j: usize) -> bool
-    requires { (512 ≤ length book.now) × (s < 8) }
-    ensures { result ≡ is_value book.now s r j }
+fn is_value(head: &Head<'_>, s: usize, r: usize, j: usize) -> bool
+    requires { s < 8 }
+    ensures { result ≡ is_value head.now.bytes.now s r j }
 {
-    if r < rows(book, s) {
-        return j < width(book, s);
-    }
-    false
+    r < head.rows(s) && j < head.width(s)
 }
 
-// The refusal for byte i of block q of sheet s, which is wrong; the sheet's blocks begin at block `start`.
-fn fault_number(book: &[u8], s: usize, start: usize, q: usize, i: usize) -> u64
-    requires { (512 ≤ length book.now) × (s < 8) × (start ≡ first_block book.now s) × (start + q ≤ 33) × (i ≤ 508) }
-    ensures { result ≡ fault_number (fault_at book.now s q i) }
+// The refusal for byte i of block q of a sheet, which is wrong.
+fn fault_at(sheet: &SheetBlocks<'_>, q: usize, i: usize) -> Refusal
+    requires { (sheet.now.number < 8) × (sheet.now.start + q ≤ 33) × (i ≤ 508) }
+    ensures { row_verdict sheet.now.book.now (fault_at sheet.now.book.now sheet.now.number q i) ≡ verdict_of result }
 {
-    let place = 128 * (start + q) + i / 4;
-    if is_value(book, s, 127 * q + i / 4, i % 4) {
-        return refusal(5, place);
+    let place = (128 * (sheet.start + q) + i / 4) as u16;
+    if is_value(&Head::of(sheet.book), sheet.number, 127 * q + i / 4, i % 4) {
+        return Refusal::Value(place);
     }
-    refusal(6, place)
+    Refusal::Filler(place)
 }
 
-// The refusal for the first wrong byte of block q of sheet s, which has one.
-fn fault_in_block(book: &[u8], s: usize, start: usize, q: usize) -> u64
-    requires { SheetThere book.now s × RightHead book.now × (s < sheets_of book.now) × (start ≡ first_block book.now s) × (q < blocks_of book.now s) × (start + q ≤ 33) }
-    ensures { result ≡ fault_number (fault_in_block book.now s q) }
+// The first wrong byte of block q of a sheet.
+fn first_in_block(sheet: &SheetBlocks<'_>, q: usize) -> Option<usize>
+    requires { RightHead sheet.now.book.now × (sheet.now.number < sheets_of sheet.now.book.now) × (q < blocks_of sheet.now.book.now sheet.now.number) }
+    ensures { FirstOf (wrong_byte sheet.now.book.now sheet.now.number q) 0 508 result }
 {
-    let i = seek_wrong(
-        block(book, start + q),
-        bounds_of(book, s),
-        used_rows(rows(book, s), q),
-    );
-    fault_number(book, s, start, q, i)
+    let head = Head::of(sheet.book);
+    seek_wrong(
+        &Block::of(sheet.book, sheet.start + q),
+        bounds_of(&head, sheet.number),
+        used_rows(head.rows(sheet.number), q),
+    )
 }
 
-// The refusal for the first fault of the rows, or 0. The head is right, and the blocks that it needs are there. A right book without 255 is done where no
-// sheet is in doubt.
-pub fn first_fault(book: &[u8]) -> u64
-    requires { RightLength book.now × RightHead book.now × (blocks_needed book.now ≡ block_count book.now) }
-    ensures { result ≡ fault_number (first_fault book.now) }
+// The refusal for the first fault of sheet s.
+fn check_sheet(book: &Whole<'_>, s: usize) -> Result<(), Refusal>
+    requires { s < sheets_of book.now.bytes.now }
+    ensures right { IfOk result (λ _. wrong_sheet book.now.bytes.now s ≡ false) }
+    ensures wrong { IfErr result (λ e. (wrong_sheet book.now.bytes.now s ≡ true) × (row_verdict book.now.bytes.now (fault_in_sheet book.now.bytes.now s) ≡ verdict_of e)) }
 {
-    let n = sheets(book);
-    let mut s = first_doubt(book);
-    if s == n {
-        return 0;
-    }
-    let mut start = first_block(book, s);
-    while s < n {
-        let blocks = blocks_of(book, s);
-        let q = first_in_sheet(book, s, start);
-        if q < blocks {
-            return fault_in_block(book, s, start, q);
+    let sheet = SheetBlocks::of(book, s);
+    match first_in_sheet(&sheet) {
+        None => Ok(()),
+        Some(q) => {
+            let i = first_in_block(&sheet, q).unwrap();
+            Err(fault_at(&sheet, q, i))
         }
-        start = start + blocks;
-        s += 1;
     }
-    0
+}
+
+// Refusal 5 or 6 for the first fault of the rows. A right book without 255 is done where no sheet is in doubt.
+pub fn check_faults(book: &Whole<'_>) -> Result<(), Refusal>
+    ensures right { IfOk result (λ _. first_fault book.now.bytes.now ≡ clean) }
+    ensures wrong { IfErr result (λ e. row_verdict book.now.bytes.now (first_fault book.now.bytes.now) ≡ verdict_of e) }
+{
+    let Some(first) = first_doubt(book) else {
+        return Ok(());
+    };
+    for s in first..book.head().sheets() {
+        check_sheet(book, s)?;
+    }
+    Ok(())
 }

@@ -1,86 +1,87 @@
 // book: the format FGB1: the bytes of a fitting book, checked or refused with a number and a place.
 //
-// Promise: `check` returns `check_result` of the bytes (specs/Verdicts.antt), for every byte string; an accepted book stands for a well-formed
-// one (specs/Decoding.antt). Blocks, checks and the head are those of crate heads, the rows and the bounds of their bytes those of crate rows; where the
-// rows are at fault is found by crate faults.
+// Promise: `check` gives the verdict on every byte string (`verdict`, specs/Verdicts.antt): a `Book`, whose number is `check_result` of its bytes, or the
+// `Refusal` that stands for it (specs/Refusals.antt). An accepted book stands for a well-formed one (specs/Decoding.antt). Blocks, checks and the head are
+// those of crate heads, the rows and the bounds of their bytes those of crate rows; where the rows are at fault is found by crate faults.
 //
-//   fault    the first fault of the rows, and the refusal for it
-//   rise     the first row of a forbidden sheet that does not rise, and the refusal for it
+//   refused    why a book is refused, and where
+//   accepted   a book that is not
+//   fault      the first fault of the rows, and the refusal for it
+//   rise       the first row of a forbidden sheet that does not rise, and the refusal for it
 #![tactic(auto)]
 
+pub mod accepted;
 pub mod fault;
+pub mod refused;
 pub mod rise;
 
-ghost use Rattle.std.specs.Prelude.{◌≡◌, ◌<◌};
-ghost use Rattle.heads.specs.Blocks.{RightLength, RightChecks};
+ghost use Rattle.std.specs.Prelude.{◌≡◌, IfErr, IfOk};
+ghost use Rattle.heads.specs.Blocks.{RightChecks, RightLength};
 ghost use Rattle.heads.specs.Heads.{RightHead};
-ghost use Rattle.book.specs.Verdicts.{check_result, refused};
+ghost use Rattle.book.specs.Refusals.{refusal_number, verdict_of};
+ghost use Rattle.book.specs.Verdicts.{check_result, verdict};
 
 use crate::fault::*;
 use crate::rise::*;
+pub use accepted::Book;
 use heads::block::*;
 use heads::head::*;
+pub use refused::Refusal;
 use rows::row::*;
 
-// A refusal and its place as one number.
-pub fn refusal(n: u64, place: usize) -> u64
-    requires { (n < 65536) × (place < 65536) }
-    ensures { result ≡ refused n place }
+// Refusal 2, unless the check of each block is right.
+fn check_blocks(bytes: &[u8]) -> Result<(), Refusal>
+    requires { RightLength bytes.now }
+    ensures right { IfOk result (λ _. RightChecks bytes.now) }
+    ensures wrong { IfErr result (λ e. verdict bytes.now ≡ verdict_of e) }
 {
-    n * 65536 + (place as u64)
+    match first_wrong_check(bytes, bytes.len() / 512) {
+        None => Ok(()),
+        Some(n) => Err(Refusal::Check(n as u16)),
+    }
 }
 
-// Of a book whose length, checks and head are right: refusal 4, 5, 6 or 7, or the accepted figure.
-fn check_rows(book: &[u8]) -> u64
-    requires { RightLength book.now × RightChecks book.now × RightHead book.now }
-    ensures { result ≡ check_result book.now }
+// Refusal 3, unless each field of the head is right.
+fn check_head(bytes: &[u8]) -> Result<(), Refusal>
+    requires length { RightLength bytes.now }
+    requires checks { RightChecks bytes.now }
+    ensures right { IfOk result (λ _. RightHead bytes.now) }
+    ensures wrong { IfErr result (λ e. verdict bytes.now ≡ verdict_of e) }
 {
-    let needed = blocks_needed(book);
-    if needed != book.len() / 512 {
-        return refusal(4, needed);
+    match Head::of(bytes).first_wrong_field() {
+        None => Ok(()),
+        Some(i) => Err(Refusal::Field(i as u16)),
     }
-    let n = first_fault(book);
-    if n != 0 {
-        return n;
-    }
-    let f = first_fall(book);
-    if f != 0 {
-        return f;
-    }
-    (columns(book) as u64) * 16 + (sheets(book) as u64)
 }
 
-// Of a book whose length and checks are right: refusal 3, or what comes after it.
-fn check_head(book: &[u8]) -> u64
-    requires { RightLength book.now × RightChecks book.now }
-    ensures { result ≡ check_result book.now }
+// Refusal 4, unless the book has the blocks that its head needs.
+fn check_count<'a>(bytes: &'a [u8]) -> Result<Whole<'a>, Refusal>
+    requires length { RightLength bytes.now }
+    requires checks { RightChecks bytes.now }
+    requires head { RightHead bytes.now }
+    ensures right { IfOk result (λ whole. whole.bytes.now ≡ bytes.now) }
+    ensures wrong { IfErr result (λ e. verdict bytes.now ≡ verdict_of e) }
 {
-    let i = first_wrong_field(book);
-    if i < 508 {
-        return refusal(3, i);
+    let needed = blocks_needed(&Head::of(bytes));
+    if needed != bytes.len() / 512 {
+        return Err(Refusal::Blocks(needed as u16));
     }
-    check_rows(book)
+    Ok(Whole { bytes })
 }
 
-// Of a book whose length is right: refusal 2, or what comes after it.
-fn check_blocks(book: &[u8]) -> u64
-    requires { RightLength book.now }
-    ensures { result ≡ check_result book.now }
+// Checks a book: the lowest refusal that applies, with its place, or the book.
+pub fn check<'a>(bytes: &'a [u8]) -> Result<Book<'a>, Refusal>
+    ensures accepted { IfOk result (λ book. book.bytes.now ≡ bytes.now) }
+    ensures refused { IfErr result (λ e. verdict bytes.now ≡ verdict_of e) }
+    ensures number { IfErr result (λ e. check_result bytes.now ≡ refusal_number e) }
 {
-    let blocks = book.len() / 512;
-    let n = first_wrong_check(book, blocks);
-    if n < blocks {
-        return refusal(2, n);
+    if wrong_length(bytes) {
+        return Err(Refusal::Length);
     }
-    check_head(book)
-}
-
-// Checks a book: its refusal and place as one number, the lowest refusal that applies, or C × 16 + S.
-pub fn check(book: &[u8]) -> u64
-    ensures { result ≡ check_result book.now }
-{
-    if wrong_length(book) {
-        return refusal(1, 0);
-    }
-    check_blocks(book)
+    check_blocks(bytes)?;
+    check_head(bytes)?;
+    let whole = check_count(bytes)?;
+    check_faults(&whole)?;
+    check_falls(&whole)?;
+    Ok(Book { bytes })
 }

@@ -1,53 +1,47 @@
 // The first row of a forbidden sheet that is not above the one before it, and its refusal.
-ghost use Rattle.std.specs.Prelude.{◌≡◌, ◌+◌, ◌*◌, ◌/◌, ◌<◌, ◌≤◌};
-ghost use Rattle.heads.specs.Blocks.{RightLength, block_count};
-ghost use Rattle.heads.specs.Heads.{sheets_of, RightHead};
-ghost use Rattle.rows.specs.Rows.{blocks_needed};
-ghost use Rattle.book.specs.Verdicts.{refused};
-ghost use Rattle.book.specs.Numbers.{fall_number, sheet_fall};
+ghost use Rattle.std.specs.Prelude.{◌≡◌, ◌+◌, ◌*◌, ◌/◌, ◌<◌, ◌≤◌, IfErr, IfOk, false, true};
+ghost use Rattle.heads.specs.Heads.{columns_of, sheets_of};
+ghost use Rattle.rows.specs.Rows.{fall_place, falls_in};
+ghost use Rattle.book.specs.Refusals.{verdict_of};
+ghost use Rattle.book.specs.Verdicts.{accepted, bad_order, order_verdict};
 
-use crate::refusal;
+use crate::refused::Refusal;
 use faults::fall::*;
+use faults::sheet::*;
 use heads::head::*;
 use rows::row::*;
 
 // The refusal for row r of a sheet whose blocks begin at block `start`.
-fn fall_number(start: usize, r: usize) -> u64
+fn fall_at(start: usize, r: usize) -> Refusal
     requires { (start ≤ 33) × (r < 508) }
-    ensures { result ≡ refused 7 (128 * start + r + r / 127) }
+    ensures { bad_order (128 * start + r + r / 127) ≡ verdict_of result }
 {
-    refusal(7, 128 * start + r + r / 127)
+    Refusal::Order((128 * start + r + r / 127) as u16)
 }
 
-// The refusal for the first row of sheet s that does not rise, or 0: a sheet that allows its rows has none.
-fn fall_in_sheet(book: &[u8], s: usize) -> u64
-    requires { RightLength book.now × RightHead book.now × (blocks_needed book.now ≡ block_count book.now) × (s < sheets_of book.now) }
-    ensures { result ≡ sheet_fall book.now s }
+// The refusal for the first row of sheet s that does not rise: a sheet that allows its rows has none.
+fn check_sheet(book: &Whole<'_>, s: usize) -> Result<(), Refusal>
+    requires { s < sheets_of book.now.bytes.now }
+    ensures right { IfOk result (λ _. falls_in book.now.bytes.now s ≡ false) }
+    ensures wrong { IfErr result (λ e. (falls_in book.now.bytes.now s ≡ true) × (bad_order (fall_place book.now.bytes.now s / 4) ≡ verdict_of e)) }
 {
-    if !forbids(book, s) {
-        return 0;
+    if !book.head().forbids(s) {
+        return Ok(());
     }
-    let start = first_block(book, s);
-    let r = first_fall_in(book, s, start);
-    if r < rows(book, s) {
-        return fall_number(start, r);
+    let sheet = SheetBlocks::of(book, s);
+    match first_fall_in(&sheet) {
+        None => Ok(()),
+        Some(r) => Err(fall_at(sheet.start, r)),
     }
-    0
 }
 
-// The refusal for the first row that does not rise, or 0. The head is right, and the blocks that it needs are there.
-pub fn first_fall(book: &[u8]) -> u64
-    requires { RightLength book.now × RightHead book.now × (blocks_needed book.now ≡ block_count book.now) }
-    ensures { result ≡ fall_number book.now }
+// Refusal 7 for the first row that does not rise.
+pub fn check_falls(book: &Whole<'_>) -> Result<(), Refusal>
+    ensures right { IfOk result (λ _. order_verdict book.now.bytes.now ≡ accepted (columns_of book.now.bytes.now) (sheets_of book.now.bytes.now)) }
+    ensures wrong { IfErr result (λ e. order_verdict book.now.bytes.now ≡ verdict_of e) }
 {
-    let n = sheets(book);
-    let mut s: usize = 0;
-    while s < n {
-        let f = fall_in_sheet(book, s);
-        if f != 0 {
-            return f;
-        }
-        s += 1;
+    for s in 0..book.head().sheets() {
+        check_sheet(book, s)?;
     }
-    0
+    Ok(())
 }

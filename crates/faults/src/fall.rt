@@ -3,20 +3,18 @@
 //     row r     ..   125  126 | 127  128  ..          4 bytes further on, and 4 more where a block ends
 //     i         ..   125  126 |   0    1  ..          r % 127
 ghost use Rattle.std.specs.Prelude.{◌≡◌, ◌+◌, ◌/◌, ◌<◌, ◌≤◌, length};
-ghost use Rattle.model.specs.Tests.{FirstIn};
+ghost use Rattle.model.specs.Tests.{FirstOf};
 ghost use Rattle.heads.specs.Heads.{rows_of};
-ghost use Rattle.rows.specs.Rows.{falls, first_block, string_at};
-ghost use Rattle.rows.specs.Bounds.{SheetThere};
+ghost use Rattle.rows.specs.Rows.{falls, string_at};
 
-use fields::word_of;
-use heads::head::*;
+use crate::sheet::SheetBlocks;
 
 // The four bytes from byte `at` on as a byte string: the first counts most.
 fn string_at(book: &[u8], at: usize) -> u32
     requires { at + 3 < length book.now }
     ensures { result ≡ string_at book.now at }
 {
-    word_of(book[at + 3], book[at + 2], book[at + 1], book[at])
+    u32::from_be_bytes([book[at], book[at + 1], book[at + 2], book[at + 3]])
 }
 
 // How many blocks end with row i of a block.
@@ -27,26 +25,23 @@ fn ends(i: usize) -> usize
     if i == 126 { 1 } else { 0 }
 }
 
-// The first row of sheet s that is not above the one before it, or the number of its rows. `before` is one more than the row before.
-pub fn first_fall_in(book: &[u8], s: usize, start: usize) -> usize
-    requires { SheetThere book.now s × (rows_of book.now s ≤ 508) × (start ≡ first_block book.now s) × (start ≤ 33) }
-    ensures { FirstIn (falls book.now s) 0 (rows_of book.now s) result }
+// The first row of a sheet that is not above the one before it.
+pub fn first_fall_in(sheet: &SheetBlocks<'_>) -> Option<usize>
+    requires { (rows_of sheet.now.book.now sheet.now.number ≤ 508) × (sheet.now.start ≤ 33) }
+    ensures { FirstOf (falls sheet.now.book.now sheet.now.number) 0 (rows_of sheet.now.book.now sheet.now.number) result }
 {
-    let n = rows(book, s);
-    let mut at = 512 * start;
+    let mut at = 512 * sheet.start;
     let mut i: usize = 0;
-    let mut before: u64 = 0;
-    let mut r: usize = 0;
-    while r < n {
-        let x = (string_at(book, at) as u64) + 1;
-        if x <= before {
-            return r;
+    let mut before: Option<u32> = None;
+    for r in 0..sheet.head().rows(sheet.number) {
+        let x = string_at(sheet.book, at);
+        if before.is_some_and(|b| x <= b) {
+            return Some(r);
         }
-        before = x;
+        before = Some(x);
         let more = ends(i);
-        at = at + 4 + 4 * more;
+        at += 4 + 4 * more;
         i = i + 1 - 127 * more;
-        r += 1;
     }
-    r
+    None
 }

@@ -1,87 +1,69 @@
 // The first wrong block of a sheet, and the first wrong byte of a block.
-ghost use Rattle.std.specs.Prelude.{◌≡◌, ◌*◌, ◌<◌, ◌≤◌, length};
-ghost use Rattle.model.specs.Tests.{FirstIn, Finds};
+ghost use Rattle.std.specs.Prelude.{◌≡◌, ◌*◌, ◌<◌, ◌≤◌};
+ghost use Rattle.model.specs.Tests.{FirstOf, Finds};
 ghost use Rattle.heads.specs.Heads.{sheets_of, RightHead};
-ghost use Rattle.rows.specs.Rows.{blocks_of, first_block, wrong_block};
-ghost use Rattle.rows.specs.Bounds.{wrong_in, BoundedSheet, SheetThere, SmallBounds};
+ghost use Rattle.rows.specs.Rows.{blocks_of, wrong_block};
+ghost use Rattle.rows.specs.Bounds.{over_block, wrong_in};
 
-use heads::block::*;
-use heads::head::*;
+use crate::sheet::SheetBlocks;
+use heads::block::Block;
 use heads::limit::*;
 use rows::row::*;
 
 // ---- the first wrong block
 
-// Whether a block has a wrong byte; its first n rows are used. Unused rows are zero, and so below every bound.
-fn any_wrong(b: &[u8], m: Bounds, n: usize) -> bool
-    requires { (length b.now ≡ 512) × (n ≤ 127) × SmallBounds m.w m.x m.y m.z }
-    ensures { Finds (wrong_in m.w m.x m.y m.z m.k b.now (4 * n)) 0 508 result }
+// Whether a block has a byte that is wrong by these bounds; its first n rows are used. Unused rows are zero, and so below every bound.
+fn any_wrong(b: &Block<'_>, m: Bounds, n: usize) -> bool
+    requires { n ≤ 127 }
+    ensures { Finds (wrong_in m.w m.x m.y m.z m.k b.now.bytes.now (4 * n)) 0 508 result }
 {
-    if any_set(b, 4 * n, 508) {
-        return true;
-    }
-    any_over(b, m)
+    any_set(b.bytes, 4 * n, 508) || any_over(b, m)
 }
 
-// Whether block q of sheet s, whose blocks begin at block `start`, has a wrong byte. m are the sheet's bounds.
-fn wrong_block(book: &[u8], m: Bounds, s: usize, start: usize, q: usize) -> bool
-    requires { BoundedSheet book.now s start m.w m.x m.y m.z m.k × (q < blocks_of book.now s) }
-    ensures { result ≡ wrong_block book.now s q }
+// The first block of a sheet that has such a byte, counted from its first.
+pub(crate) fn first_over(sheet: &SheetBlocks<'_>, m: Bounds) -> Option<usize>
+    ensures { FirstOf (over_block sheet.now.book.now sheet.now.number m.w m.x m.y m.z m.k) 0 (blocks_of sheet.now.book.now sheet.now.number) result }
 {
-    any_wrong(block(book, start + q), m, used_rows(rows(book, s), q))
-}
-
-// The first wrong block of sheet s, counted from its first, or the number of its blocks.
-fn first_in_blocks(book: &[u8], m: Bounds, s: usize, start: usize) -> usize
-    requires { BoundedSheet book.now s start m.w m.x m.y m.z m.k }
-    ensures { FirstIn (wrong_block book.now s) 0 (blocks_of book.now s) result }
-{
-    let blocks = blocks_of(book, s);
-    let mut q: usize = 0;
-    while q < blocks {
-        if wrong_block(book, m, s, start, q) {
-            return q;
+    let head = sheet.head();
+    let rows = head.rows(sheet.number);
+    for q in 0..blocks_of(&head, sheet.number) {
+        if any_wrong(&sheet.block(q), m, used_rows(rows, q)) {
+            return Some(q);
         }
-        q += 1;
     }
-    q
+    None
 }
 
-// The same, with the bounds looked up; a sheet without rows needs none.
-pub fn first_in_sheet(book: &[u8], s: usize, start: usize) -> usize
-    requires { SheetThere book.now s × RightHead book.now × (s < sheets_of book.now) × (start ≡ first_block book.now s) }
-    ensures { FirstIn (wrong_block book.now s) 0 (blocks_of book.now s) result }
+// The first wrong block of a sheet, counted from its first.
+pub fn first_in_sheet(sheet: &SheetBlocks<'_>) -> Option<usize>
+    requires { RightHead sheet.now.book.now × (sheet.now.number < sheets_of sheet.now.book.now) }
+    ensures { FirstOf (wrong_block sheet.now.book.now sheet.now.number) 0 (blocks_of sheet.now.book.now sheet.now.number) result }
 {
-    if rows(book, s) == 0 {
-        return 0;
-    }
-    first_in_blocks(book, bounds_of(book, s), s, start)
+    first_over(sheet, bounds_of(&sheet.head(), sheet.number))
 }
 
 // ---- the first wrong byte of a block
 
 // Whether byte i of a block is wrong; its first n rows are used.
-fn wrong_in(b: &[u8], m: Bounds, n: usize, i: usize) -> bool
-    requires { (length b.now ≡ 512) × (n ≤ 127) × (i < 508) }
-    ensures { result ≡ wrong_in m.w m.x m.y m.z m.k b.now (4 * n) i }
+fn wrong_in(b: &Block<'_>, m: Bounds, n: usize, i: usize) -> bool
+    requires { (n ≤ 127) × (i < 508) }
+    ensures { result ≡ wrong_in m.w m.x m.y m.z m.k b.now.bytes.now (4 * n) i }
 {
     if i < 4 * n {
-        return over_bound(m, i % 4, b[i]);
+        return m.over_bound(i % 4, b.bytes[i]);
     }
-    set_at(b, i)
+    set_at(b.bytes, i)
 }
 
-// The first wrong byte of a block, or 508. Used rows are passed over as long as none of their bytes is wrong.
-pub fn seek_wrong(b: &[u8], m: Bounds, n: usize) -> usize
-    requires { (length b.now ≡ 512) × (n ≤ 127) × SmallBounds m.w m.x m.y m.z }
-    ensures { FirstIn (wrong_in m.w m.x m.y m.z m.k b.now (4 * n)) 0 508 result }
+// The first wrong byte of a block. Used rows are passed over as long as none of their bytes is wrong.
+pub fn seek_wrong(b: &Block<'_>, m: Bounds, n: usize) -> Option<usize>
+    requires { n ≤ 127 }
+    ensures { FirstOf (wrong_in m.w m.x m.y m.z m.k b.now.bytes.now (4 * n)) 0 508 result }
 {
-    let mut i = 4 * rows_under(b, m, n);
-    while i < 508 {
+    for i in 4 * rows_under(b, m, n)..508 {
         if wrong_in(b, m, n, i) {
-            return i;
+            return Some(i);
         }
-        i += 1;
     }
-    i
+    None
 }

@@ -1,26 +1,18 @@
 -- Laws of numbers made of bytes, and of lists written over. Assumes nothing.
 use mathlib.Core.Path.{◌∙◌, ◌≡◌, ap, ap₂, refl, sym}
 use mathlib.Core.List.{List, [], ◌++◌, ◌∷◌, append_assoc, append-nil}
-use Prim.Native.Nat.{◌%◌, ◌*◌, ◌+◌, ◌/◌, ◌<◌, ◌^◌, ◌≤◌, suc, zero, ℕ}
-use native.Mathlib.Nat.{div-div-eq-div-mul, mod-eq_of_lt}
+use Prim.Native.Nat.{◌%◌, ◌+◌, ◌<◌, ◌^◌, ◌≤◌, suc, zero, ℕ}
 use native.Mathlib.Omega.{arith}
-use lib.ListN.{drop, drop_of_length-le, length, length-append, set, take, take-append-drop}
+use lib.ListN.{drop, drop_of_length-le, length, length-append, take, take-append-drop}
+use Rattle.std.proofs.lemmas.Nat.{from_le_bytes-to_le_bytes_4}
 use lib.Seq.{drop-append-add, drop-drop, length-take-le, sets, sets-eq, take_at}
-use Rattle.fields.specs.Bytes.{byte_at, half_bytes, over, word_at, word_bytes}
+use Rattle.fields.specs.Bytes.{byte_at, over, word_at, word_bytes}
 
 -- ---- a number and its four bytes
-word_value : (x : ℕ) → x < 2 ^ 32 → x % 256 + x / 256 % 256 * 256 + x / 65536 % 256 * 65536 + x / 16777216 % 256 * 16777216 ≡ x
-word_value x l =
-    let y : x / 65536 ≡ x / 256 / 256 = sym (div-div-eq-div-mul x 256 256) in
-    let z : x / 16777216 ≡ x / 65536 / 256 = sym (div-div-eq-div-mul x 65536 256) in
-    let q : x / 16777216 < 256 = omega arith in
-    let w : x / 16777216 % 256 ≡ x / 16777216 = mod-eq_of_lt q in
-    omega (arith, y, z, w)
-
 -- four bytes that are those of x read as x
 pub word_back : (b : List ℕ) (i x : ℕ) → x < 2 ^ 32 → ((j : ℕ) → j < 4 → byte_at b (i + j) ≡ byte_at (word_bytes x) j) → word_at b i ≡ x
 word_back b i x l at =
-    rw (at 1 (omega arith), at 2 (omega arith), at 3 (omega arith), first) (word_value x l)
+    rw (at 1 (omega arith), at 2 (omega arith), at 3 (omega arith), first) (from_le_bytes-to_le_bytes_4 x l)
   where
     first : byte_at b i ≡ x % 256
     first = let e : i ≡ i + 0 = omega arith in ap (byte_at b) e ∙ at 0 (omega arith)
@@ -30,21 +22,6 @@ word_back b i x l at =
 pub stored : (xs : List ℕ) (a : ℕ) (ys : List ℕ) → a + length ys ≤ length xs → sets xs a ys ≡ over xs a ys
 unfolding over
 stored xs a ys h = sets-eq ys xs a h ∙ append_assoc (take a xs) ys (drop (a + length ys) xs)
-
--- the two bytes of a number, stored one by one
-pub half_stored : (xs : List ℕ) (n x : ℕ) {p q : ℕ} → n + 2 ≤ length xs → p ≡ x % 256 → q ≡ x / 256 % 256
-    → set (set xs n p) (n + 1) q ≡ over xs n (half_bytes x)
-half_stored xs n x h e f = let one : n + 1 ≡ suc n = omega arith in rw (e, f, one) (stored xs n (half_bytes x) h)
-
--- and four
-pub word_stored : (xs : List ℕ) (n x : ℕ) {p q r t : ℕ} → n + 4 ≤ length xs
-    → p ≡ x % 256 → q ≡ x / 256 % 256 → r ≡ x / 65536 % 256 → t ≡ x / 16777216 % 256
-    → set (set (set (set xs n p) (n + 1) q) (n + 2) r) (n + 3) t ≡ over xs n (word_bytes x)
-word_stored xs n x h e f g k =
-    let one : n + 1 ≡ suc n = omega arith in
-    let two : n + 2 ≡ suc (suc n) = omega arith in
-    let three : n + 3 ≡ suc (suc (suc n)) = omega arith in
-    rw (e, f, g, k, one, two, three) (stored xs n (word_bytes x) h)
 
 -- the same bytes at the same place
 pub over_same : (xs : List ℕ) {a b : ℕ} {ys zs : List ℕ} → a ≡ b → ys ≡ zs → over xs a ys ≡ over xs b zs

@@ -12,21 +12,21 @@ ghost use Rattle.fields.specs.Bytes.{half_at, half_bytes, over, word_at, word_by
 pub fn wide(x: u8) -> usize
     ensures { (result ≡ x) × (result < 256) }
 {
-    x as usize
+    usize::from(x)
 }
 
 // A byte as a 32-bit number.
 pub fn wide32(x: u8) -> u32
     ensures { result ≡ x }
 {
-    x as u32
+    u32::from(x)
 }
 
 // Four bytes as one number.
 pub fn word_of(a: u8, b: u8, c: u8, d: u8) -> u32
     ensures { result ≡ a + b * 256 + c * 65536 + d * 16777216 }
 {
-    (a as u32) + (b as u32) * 256 + (c as u32) * 65536 + (d as u32) * 16777216
+    u32::from_le_bytes([a, b, c, d])
 }
 
 // The number in bytes i and i + 1.
@@ -34,7 +34,7 @@ pub fn half_at(b: &[u8], i: usize) -> usize
     requires { i + 2 ≤ length b.now }
     ensures { (result ≡ half_at b.now i) × (result < 65536) }
 {
-    wide(b[i]) + wide(b[i + 1]) * 256
+    usize::from(u16::from_le_bytes([b[i], b[i + 1]]))
 }
 
 // The number in bytes i to i + 3.
@@ -42,7 +42,7 @@ pub fn word_at(b: &[u8], i: usize) -> u32
     requires { i + 4 ≤ length b.now }
     ensures { result ≡ word_at b.now i }
 {
-    word_of(b[i], b[i + 1], b[i + 2], b[i + 3])
+    u32::from_le_bytes([b[i], b[i + 1], b[i + 2], b[i + 3]])
 }
 
 // ---- writing
@@ -52,8 +52,7 @@ pub fn put_half(out: &mut [u8], i: usize, n: u32)
     requires { i + 2 ≤ length out.old }
     ensures { out.new ≡ over out.old i (half_bytes n) }
 {
-    out[i] = (n % 256) as u8;
-    out[i + 1] = (n / 256 % 256) as u8;
+    out[i..i + 2].copy_from_slice(&n.to_le_bytes()[..2]);
 }
 
 // A number of 32 bits as four bytes, from byte i on.
@@ -61,8 +60,5 @@ pub fn put_word(out: &mut [u8], i: usize, x: u32)
     requires { i + 4 ≤ length out.old }
     ensures { out.new ≡ over out.old i (word_bytes x) }
 {
-    out[i] = (x % 256) as u8;
-    out[i + 1] = (x / 256 % 256) as u8;
-    out[i + 2] = (x / 65536 % 256) as u8;
-    out[i + 3] = (x / 16777216 % 256) as u8;
+    out[i..i + 4].copy_from_slice(&x.to_le_bytes());
 }

@@ -1,16 +1,13 @@
 // What a field must not be: out of its range, or not zero.
 ghost use Rattle.std.specs.Prelude.{◌≡◌, ◌<◌, ◌≤◌, length};
-ghost use Rattle.model.specs.Tests.{FirstIn, Finds};
+ghost use Rattle.model.specs.Tests.{FirstOf, Finds};
 ghost use Rattle.heads.specs.Limits.{set_at, out_of_range};
 
 // Whether x is not one of the numbers from lo to hi.
 pub fn out_of_range(x: usize, lo: usize, hi: usize) -> bool
     ensures { result ≡ out_of_range lo hi x }
 {
-    if x < lo {
-        return true;
-    }
-    hi < x
+    !(lo..=hi).contains(&x)
 }
 
 // Whether byte i is not zero.
@@ -27,36 +24,20 @@ pub fn any_set(b: &[u8], a: usize, e: usize) -> bool
     ensures { Finds (set_at b.now) a e result }
 {
     let mut x: u8 = 0;
-    let mut i = a;
-    while i < e {
-        x = x | b[i];
-        i += 1;
+    for i in a..e {
+        x |= b[i];
     }
     x != 0
 }
 
-// The first byte from a on and below e that is not zero, or e, one by one.
-fn seek_set(b: &[u8], a: usize, e: usize) -> usize
+// The first byte from a on and below e that is not zero: looked for only where there is one.
+pub fn first_set(b: &[u8], a: usize, e: usize) -> Option<usize>
     requires { (a ≤ e) × (e ≤ length b.now) }
-    ensures { FirstIn (set_at b.now) a e result }
-{
-    let mut i = a;
-    while i < e {
-        if set_at(b, i) {
-            return i;
-        }
-        i += 1;
-    }
-    i
-}
-
-// The first byte from a on and below e that is not zero, or e: looked for only where there is one.
-pub fn first_set(b: &[u8], a: usize, e: usize) -> usize
-    requires { (a ≤ e) × (e ≤ length b.now) }
-    ensures { FirstIn (set_at b.now) a e result }
+    ensures { FirstOf (set_at b.now) a e result }
 {
     if any_set(b, a, e) {
-        return seek_set(b, a, e);
+        (a..e).find(|i| set_at(b, *i))
+    } else {
+        None
     }
-    e
 }

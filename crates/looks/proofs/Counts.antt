@@ -36,7 +36,7 @@ use Rattle.words.specs.Sheets.{AtSheet, FindsSupported, RowsAre, SheetWords, Siz
 use Rattle.words.proofs.Gathers.{at_position, word_row}
 use Rattle.words.proofs.Places.{column_value, columns_size, formed, row_value, rows_few, sheet_forbids, sheet_in, valid_e, width_most, forbidden_value}
 use Rattle.words.proofs.Indexes.{passes}
-use Rattle.looks.specs.Counts.{CountsTo, Fewer, NoneAbove, NotFull, NotFullTo, Others, SameSets, Unfilled, others_of, values_to}
+use Rattle.looks.specs.Counts.{CountsTo, Fewer, NoneAbove, NotFull, NotFullTo, Others, Unfilled, others_of, values_to}
 
 -- ---- the words in turn
 values_next : (b : List ℕ) (s : ℕ) (W X : List ℕ) (j v n : ℕ)
@@ -163,24 +163,14 @@ none_full {C} {j} {rows} {choices} {d} l f h m = record { at = λ v. go v (below
         rw e (sym (and_true (bit v d)))
     go v (inr k) = rw (bit_high 32 d v f k)
 
-pub places_none : (C o x : List ℕ) {y : List ℕ} → y ≡ replicate 4 0 → NotFullTo C o x 0 y
-places_none C o x e = record { size = ap length e ∙ length-replicate {A = ℕ} 4 0; at = λ j v l. absurd (omega arith) }
-
-pub places_more : {C o x y : List ℕ} {n r : ℕ} → n < 4 → NotFullTo C o x n y → NotFull C n (get_or o n 0) (get_or x n 0) r → NotFullTo C o x (n + 1) (set y n r)
-places_more {C} {o} {x} {y} {n} {r} l h g = record { size = length-set y n r ∙ h.size; at = λ j v m. go j v (below j n) m }
-  where
-    go : (j v : ℕ) → (j < n) ⊎ (n ≤ j) → j < n + 1 → bit v (get_or (set y n r) j 0) ≡ (bit v (get_or x j 0) && not (eqb (count_at C j v) (get_or o j 0)))
-    go j v (inl k) m = ap (bit v) (get_or-set_other y n j r 0 (λ e. omega arith)) ∙ h.at j v k
-    go j v (inr k) m = let e : j ≡ n = omega arith in rw e (ap (bit v) (get_or-set_same y n r 0 (omega (arith, h.size))) ∙ g.at v)
-
 -- ---- together
 -- values from 32 on are in no set
 past : {x : List ℕ} → SmallSets x → (j v : ℕ) → 32 ≤ v → (t : Bool) → (bit v (get_or x j 0) && t) ≡ false
 past {x} small j v l t = rw (bit_high 32 (get_or x j 0) v (small.fits j) l)
 
-module _ {b : List ℕ} {s n : ℕ} {W X N x y : List ℕ} (z : Sized W X N) (small : SmallSets x) where
-  pub unfilled_counted : (k : ℕ) {C o : List ℕ} → CountsTo k b s W X n C → Others x o → NotFullTo C o x 4 y → Unfilled b s W X n x (places_of k) y
-  unfilled_counted k {C} {o} c q h = record { at = λ j v l. h.at j v (four j l) ∙ go j v (four j l) l (below v 32) }
+module _ {b : List ℕ} {s n : ℕ} {W X N x : List ℕ} (z : Sized W X N) (small : SmallSets x) where
+  pub unfilled_counted : (k : ℕ) {C o y : List ℕ} → CountsTo k b s W X n C → Others x o → NotFullTo C o x 4 y → Unfilled b s W X n x (places_of k) y
+  unfilled_counted k {C} {o} {y} c q h = record { at = λ j v l. h.at j v (four j l) ∙ go j v (four j l) l (below v 32) }
     where
       four : (j : ℕ) → j < places_of k → j < 4
       four j l = omega (arith, (places_fit k).0)
@@ -190,8 +180,8 @@ module _ {b : List ℕ} {s n : ℕ} {W X N x y : List ℕ} (z : Sized W X N) (sm
       go j v l i (inl m) = rw (c.at j v l m, lt-ltb j (places_of k) i, q.at j l)
       go j v l i (inr m) = past small j v m (not (eqb (count_at C j v) (get_or o j 0))) ∙ sym (past small j v m (not (eqb (values_to b s W X j v n) (others_of x j))))
 
-  pub unfilled_few : {m : ℕ} {o : List ℕ} → Others x o → rows_to W X s n ≤ m → Fewer m o → SameSets x y → Unfilled b s W X n x 4 y
-  unfilled_few {m} {o} q l f e = record { at = λ j v k. ap (bit v) (e.at j k) ∙ go j v k }
+  pub unfilled_few : {m : ℕ} {o : List ℕ} → Others x o → rows_to W X s n ≤ m → Fewer m o → Unfilled b s W X n x 4 x
+  unfilled_few {m} {o} q l f = record { at = go }
     where
       go : (j v : ℕ) → j < 4 → bit v (get_or x j 0) ≡ (bit v (get_or x j 0) && not (eqb (values_to b s W X j v n) (others_of x j)))
       go j v k =
@@ -337,28 +327,18 @@ module _ {b : List ℕ} {begin s : ℕ} (a : AtSheet b begin s) where
           ap not (ne_eqb (values_to b s W X j v (get_or N s 0)) (others_of x j) (λ z. omega (arith, q, c, o)))))
 
 -- ---- steps of the code
-pub few_ones : {x : List ℕ} → SmallSets x → (j : ℕ) → ones (get_or x j 0) ≤ 32
-few_ones {x} h j = ones-le 32 (get_or x j 0) (h.fits j)
-
 ones_size : {x : List ℕ} → SmallSets x → (j : ℕ) → ones (get_or x j 0) ≡ size (get_or x j 0)
 ones_size {x} h j = sym (count_ones 32 (get_or x j 0) (h.fits j))
 
-pub others_made : {x o : List ℕ} {a b c d : ℕ} → SmallSets x → o ≡ replicate 4 0 → a ≡ ones (get_or x 1 0) * ones (get_or x 2 0) * ones (get_or x 3 0)
+pub others_made : {x : List ℕ} {a b c d : ℕ} → SmallSets x → a ≡ ones (get_or x 1 0) * ones (get_or x 2 0) * ones (get_or x 3 0)
     → b ≡ ones (get_or x 0 0) * ones (get_or x 2 0) * ones (get_or x 3 0) → c ≡ ones (get_or x 0 0) * ones (get_or x 1 0) * ones (get_or x 3 0)
-    → d ≡ ones (get_or x 0 0) * ones (get_or x 1 0) * ones (get_or x 2 0) → Others x (set (set (set (set o 0 a) 1 b) 2 c) 3 d)
+    → d ≡ ones (get_or x 0 0) * ones (get_or x 1 0) * ones (get_or x 2 0) → Others x (a ∷ b ∷ c ∷ d ∷ [])
 unfolding others_of
-others_made {x} {o} {a} {b} {c} {d} h e ea eb ec ed =
-    rw e
-    (record {
+others_made {x} {a} {b} {c} {d} h ea eb ec ed =
+    record {
       size = refl;
       at = λ j l.
           four_all (λ j. get_or (a ∷ b ∷ c ∷ d ∷ []) j 0 ≡ others_of x j)
           (ea ∙ rw (ones_size h 1, ones_size h 2, ones_size h 3)) (eb ∙ rw (ones_size h 0, ones_size h 2, ones_size h 3))
           (ec ∙ rw (ones_size h 0, ones_size h 1, ones_size h 3)) (ed ∙ rw (ones_size h 0, ones_size h 1, ones_size h 2)) j l;
-    })
-
-pub fewer_four : {n : ℕ} {o : List ℕ} → n < get_or o 0 0 → n < get_or o 1 0 → n < get_or o 2 0 → n < get_or o 3 0 → Fewer n o
-fewer_four {n} {o} a b c d = record { at = λ j l. four_all (λ j. n < get_or o j 0) a b c d j l }
-
-pub same_four : (x : List ℕ) {y : List ℕ} → y ≡ replicate 4 0 → SameSets x (set (set (set (set y 0 (get_or x 0 0)) 1 (get_or x 1 0)) 2 (get_or x 2 0)) 3 (get_or x 3 0))
-same_four x e = rw e (record { at = λ j l. four_all (λ j. get_or (get_or x 0 0 ∷ get_or x 1 0 ∷ get_or x 2 0 ∷ get_or x 3 0 ∷ []) j 0 ≡ get_or x j 0) refl refl refl refl j l })
+    }

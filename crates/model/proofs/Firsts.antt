@@ -5,7 +5,8 @@ use mathlib.Core.Logic.{◌⊎◌, inl, inr}
 use Prim.Native.Nat.{ℕ, ◌+◌, ◌*◌, ◌/◌, ◌%◌, ◌≤◌, ◌<◌}
 use native.Mathlib.Nat.{le_refl}
 use native.Mathlib.Omega.{arith}
-use Rattle.model.specs.Tests.{Finds, FirstIn, NoneIn, any_below, lowest}
+use Rattle.std.specs.Prelude.{None, Option, Some}
+use Rattle.model.specs.Tests.{Finds, FirstIn, FirstOf, NoneIn, any_below, lowest}
 use Rattle.model.proofs.Tests.{any_below_i, any_below_none, below, either, lowest_before, lowest_e, lowest_le, or_e, or_false_l, or_false_r}
 
 module _ {f : ℕ → Bool} where
@@ -67,6 +68,19 @@ module _ {f : ℕ → Bool} where
       go (inr l) (inl k) = absurd (false≢true (sym (h.none.at q g.from k) ∙ g.passes (omega (arith, h.to))))
       go (inr l) (inr k) = omega arith
 
+  -- ---- the first that passes, or nothing
+  pub first_of_found : {a e i : ℕ} → a ≤ i → i < e → NoneIn f a i → f i ≡ true → FirstOf f a e (Some i)
+  first_of_found p q h t = (q, first_in_found p q h t)
+
+  -- found in the stretch from m to k, with nothing before it
+  pub first_of_some : {a m k i : ℕ} (e : ℕ) → a ≤ m → k ≤ e → NoneIn f a m → FirstOf f m k (Some i) → FirstOf f a e (Some i)
+  first_of_some e p q h x = (omega (arith, x.0), first_in_wider e q (first_in_join p h x.1) x.0)
+
+  -- looked for in the last stretch, with nothing before it
+  pub first_of_join : {a m : ℕ} (e : ℕ) (o : Option ℕ) → a ≤ m → NoneIn f a m → FirstOf f m e o → FirstOf f a e o
+  first_of_join e None p h x = none_join h x
+  first_of_join e (Some i) p h x = (x.0, first_in_join p h x.1)
+
   pub lowest_first_in : (n : ℕ) → FirstIn f 0 n (lowest n f)
   lowest_first_in n = record {
     from = omega arith;
@@ -123,6 +137,10 @@ first_in_same h x = record {
   none = record { at = λ i p q. sym (h i p (omega (arith, x.to))) ∙ x.none.at i p q };
   passes = λ l. sym (h _ x.from l) ∙ x.passes l;
 }
+
+pub first_of_same : {f g : ℕ → Bool} {a e : ℕ} (o : Option ℕ) → ((i : ℕ) → a ≤ i → i < e → f i ≡ g i) → FirstOf f a e o → FirstOf g a e o
+first_of_same None h x = record { at = λ i p q. sym (h i p q) ∙ x.at i p q }
+first_of_same (Some r) h x = (x.0, first_in_same h x.1)
 
 pub finds_same : {f g : ℕ → Bool} {a e : ℕ} {t : Bool} → ((i : ℕ) → a ≤ i → i < e → f i ≡ g i) → Finds f a e t → Finds g a e t
 finds_same h x = record {

@@ -2,10 +2,10 @@
 -- it may pass over this page.
 use Rattle.std.specs.Prelude.{◌≡◌, ℕ, zero, suc, ◌+◌, ◌-◌, ◌*◌, ◌/◌, ◌%◌, ◌^◌, ◌<◌, ◌≤◌, Bool, false, cond, ◌&&◌, ◌||◌, List, length, ◌==◌, bit_or, nat_lt}
 use Rattle.model.specs.Masks.{bit}
-use Rattle.model.specs.Tests.{NoneIn, one_if}
-use Rattle.heads.specs.Blocks.{word}
+use Rattle.model.specs.Tests.{NoneIn, any_below, one_if}
+use Rattle.heads.specs.Blocks.{block_at, word}
 use Rattle.fields.specs.Bytes.{byte_at}
-use Rattle.heads.specs.Heads.{column_of, values_of, width_of}
+use Rattle.heads.specs.Heads.{column_of, rows_of, values_of, width_of}
 use Rattle.heads.specs.Limits.{set_at}
 use Rattle.rows.specs.Rows.{any_places, blocks_of, first_block, over_at, row_place, string_at}
 
@@ -58,6 +58,10 @@ pub record BoundedSheet (b : List ℕ) (s start w x y z k : ℕ) : Type 0 where
   pub starts : start ≡ first_block b s
   pub bounds : RowBounds b s w x y z k
   pub small : SmallBounds w x y z
+
+-- block q of sheet s has a byte that is wrong by the bounds w, x, y, z, where 255 passes at the first k places of a used row
+unfoldable pub over_block : List ℕ → ℕ → ℕ → ℕ → ℕ → ℕ → ℕ → ℕ → Bool
+over_block b s w x y z k q = any_below 508 (wrong_in w x y z k (block_at b (first_block b s + q)) (4 * used_rows (rows_of b s) q))
 
 -- a look that leaves a doubt where r is true: where it is false, f passes nowhere from a on and below e
 pub record Clears (f : ℕ → Bool) (a e : ℕ) (r : Bool) : Type 0 where

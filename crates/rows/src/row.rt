@@ -13,44 +13,43 @@
 //     row     3       255     0       0           two values, V = 4 and 7
 //     turned  4       0       0       0           one of 128 or more is over its bound; where none is, the sum is as above
 //     slack   128-5   128-8   128-1   128-1
-ghost use Rattle.std.specs.Prelude.{◌≡◌, ◌+◌, ◌-◌, ◌*◌, ◌/◌, ◌%◌, ◌<◌, ◌≤◌, length, nat_lt};
+ghost use Rattle.std.specs.Prelude.{◌≡◌, ℕ, ◌+◌, ◌-◌, ◌*◌, ◌/◌, ◌%◌, ◌^◌, ◌<◌, ◌≤◌, bit_or, nat_lt};
 ghost use Rattle.model.specs.Tests.{Finds, NoneIn, one_if};
-ghost use Rattle.heads.specs.Blocks.{word};
+ghost use Rattle.heads.specs.Blocks.{RightLength, block_count, word};
 ghost use Rattle.heads.specs.Heads.{sheets_of, RightHead};
 ghost use Rattle.rows.specs.Rows.{any_places, blocks_of, first_block, blocks_needed, over_at};
 ghost use Rattle.rows.specs.Bounds.{fourth, place_bound, used_rows, over_bounds, RowBounds, SmallBounds, joined, below_bounds, any_high, raised_row, slack_of, SmallTurn, turn_of, turned, turned_row};
 
-use fields::{wide32, word_at, word_of};
-use heads::head::*;
+use fields::word_at;
+use heads::block::Block;
+use heads::head::Head;
 
 // The blocks of sheet s.
-pub fn blocks_of(h: &[u8], s: usize) -> usize
-    requires { (512 ≤ length h.now) × (s < 8) }
-    ensures { (result ≡ blocks_of h.now s) × (result ≤ 517) }
+pub fn blocks_of(h: &Head<'_>, s: usize) -> usize
+    requires { s < 8 }
+    ensures { (result ≡ blocks_of h.now.bytes.now s) × (result ≤ 517) }
 {
-    (rows(h, s) + 126) / 127
+    (h.rows(s) + 126) / 127
 }
 
 // The block in which the rows of sheet s begin.
-pub fn first_block(h: &[u8], s: usize) -> usize
-    requires { (512 ≤ length h.now) × (s ≤ 8) }
-    ensures { (result ≡ first_block h.now s) × (result < 65536) }
+pub fn first_block(h: &Head<'_>, s: usize) -> usize
+    requires { s ≤ 8 }
+    ensures { (result ≡ first_block h.now.bytes.now s) × (result < 65536) }
 {
     let mut n: usize = 1;
-    let mut t: usize = 0;
-    while t < s {
-        n = n + blocks_of(h, t);
-        t += 1;
+    for t in 0..s {
+        n += blocks_of(h, t);
     }
     n
 }
 
 // The blocks that the head and the sheets need; there are at most eight sheets.
-pub fn blocks_needed(h: &[u8]) -> usize
-    requires { (512 ≤ length h.now) × (sheets_of h.now ≤ 8) }
-    ensures { (result ≡ blocks_needed h.now) × (result < 65536) }
+pub fn blocks_needed(h: &Head<'_>) -> usize
+    requires { sheets_of h.now.bytes.now ≤ 8 }
+    ensures { (result ≡ blocks_needed h.now.bytes.now) × (result < 65536) }
 {
-    first_block(h, sheets(h))
+    first_block(h, h.sheets())
 }
 
 // How many rows of block q are used where the sheet has n; some are.
@@ -58,8 +57,24 @@ pub fn used_rows(n: usize, q: usize) -> usize
     requires { 127 * q < n }
     ensures { (result ≡ used_rows n q) × (result ≤ 127) }
 {
-    let left = n - 127 * q;
-    if left < 127 { left } else { 127 }
+    (n - 127 * q).min(127)
+}
+
+// A book whose length and head are right, and whose blocks are those that they need.
+#[derive(Clone, Copy)]
+pub struct Whole<'a> {
+    pub bytes: &'a [u8],
+    ghost length: { RightLength bytes.now },
+    ghost right: { RightHead bytes.now },
+    ghost blocks: { blocks_needed bytes.now ≡ block_count bytes.now },
+}
+
+impl<'a> Whole<'a> {
+    pub fn head(&self) -> Head<'a>
+        ensures { result.bytes.now ≡ self.now.bytes.now }
+    {
+        Head::of(self.bytes)
+    }
 }
 
 // ---- the bounds of a sheet's rows
@@ -67,40 +82,39 @@ pub fn used_rows(n: usize, q: usize) -> usize
 // What the four bytes of a used row have to be below; at the first k of them 255 passes.
 #[derive(Clone, Copy)]
 pub struct Bounds {
-    w: u8,
-    x: u8,
-    y: u8,
-    z: u8,
-    k: usize,
+    // Four fields and no array: the definitions of specs/Bounds.antt take the four one by one.
+    pub w: u8,
+    pub x: u8,
+    pub y: u8,
+    pub z: u8,
+    pub k: usize,
+    ghost small: { SmallBounds w x y z },
 }
 
 // What byte j of a used row of sheet s, one of the S, has to be below.
-fn place_bound(h: &[u8], s: usize, j: usize) -> u8
-    requires { (512 ≤ length h.now) × RightHead h.now × (s < sheets_of h.now) × (j < 4) }
-    ensures { (result ≡ place_bound h.now s j) × (1 ≤ result) × (result ≤ 127) }
+fn place_bound(h: &Head<'_>, s: usize, j: usize) -> u8
+    requires { RightHead h.now.bytes.now × (s < sheets_of h.now.bytes.now) × (j < 4) }
+    ensures { (result ≡ place_bound h.now.bytes.now s j) × (1 ≤ result) × (result ≤ 127) }
 {
-    if j < width(h, s) {
-        let c = column(h, s, j);
-        return h[8 + c];
+    if j < h.width(s) {
+        let c = h.column(s, j);
+        return h.bytes[8 + c];
     }
     1
 }
 
 // At how many places of a row 255 passes: at all of the width, but at none in a forbidden sheet.
-fn any_places(h: &[u8], s: usize) -> usize
-    requires { (512 ≤ length h.now) × (s < 8) }
-    ensures { result ≡ any_places h.now s }
+fn any_places(h: &Head<'_>, s: usize) -> usize
+    requires { s < 8 }
+    ensures { result ≡ any_places h.now.bytes.now s }
 {
-    if forbids(h, s) {
-        return 0;
-    }
-    width(h, s)
+    if h.forbids(s) { 0 } else { h.width(s) }
 }
 
 // The bounds of sheet s, one of the S.
-pub fn bounds_of(h: &[u8], s: usize) -> Bounds
-    requires { (512 ≤ length h.now) × RightHead h.now × (s < sheets_of h.now) }
-    ensures { RowBounds h.now s result.w result.x result.y result.z result.k × SmallBounds result.w result.x result.y result.z }
+pub fn bounds_of(h: &Head<'_>, s: usize) -> Bounds
+    requires { RightHead h.now.bytes.now × (s < sheets_of h.now.bytes.now) }
+    ensures { RowBounds h.now.bytes.now s result.w result.x result.y result.z result.k }
 {
     Bounds {
         w: place_bound(h, s, 0),
@@ -111,136 +125,97 @@ pub fn bounds_of(h: &[u8], s: usize) -> Bounds
     }
 }
 
-// Bound number j of them.
-fn bound(m: Bounds, j: usize) -> u8
-    ensures { result ≡ fourth m.w m.x m.y m.z j }
-{
-    if j == 0 {
-        return m.w;
+impl Bounds {
+    // Bound number j of them.
+    fn bound(self, j: usize) -> u8
+        ensures { result ≡ fourth self.w self.x self.y self.z j }
+    {
+        match j {
+            0 => self.w,
+            1 => self.x,
+            2 => self.y,
+            _ => self.z,
+        }
     }
-    if j == 1 {
-        return m.x;
+
+    // Whether byte x is over that bound, and not a 255 that passes.
+    pub fn over_bound(self, j: usize, x: u8) -> bool
+        ensures { result ≡ over_at (nat_lt j self.k) (fourth self.w self.x self.y self.z j) x }
+    {
+        self.bound(j) <= x && !(j < self.k && x == 255)
     }
-    if j == 2 {
-        return m.y;
+
+    // What is added to a row: 128 less its bounds.
+    fn slack(self) -> u32
+        ensures { result ≡ slack_of self.w self.x self.y self.z }
+    {
+        u32::from_le_bytes([128 - self.w, 128 - self.x, 128 - self.y, 128 - self.z])
     }
-    m.z
+
+    // What the turning of a row adds at each place: 1 at one of the first k, 0 elsewhere.
+    fn turn(self) -> u32
+        ensures { result ≡ turn_of self.k }
+    {
+        u32::from_le_bytes([0, 1, 2, 3].map(|j| u8::from(j < self.k)))
+    }
+
+    // Whether each byte of v is below its bound.
+    fn all_above(self, v: u32) -> bool
+        ensures { result ≡ below_bounds self.w self.x self.y self.z v }
+    {
+        let [p, q, r, s] = v.to_le_bytes();
+        p < self.w && q < self.x && r < self.y && s < self.z
+    }
 }
 
-// Whether byte x is over that bound, and not a 255 that passes.
-pub fn over_bound(m: Bounds, j: usize, x: u8) -> bool
-    ensures { result ≡ over_at (nat_lt j m.k) (fourth m.w m.x m.y m.z j) x }
-{
-    if x < bound(m, j) {
-        return false;
-    }
-    if j < m.k {
-        return x != 255;
-    }
-    true
-}
+// ---- rows over their bounds
 
-// ---- rows over their bounds. Each loop uses a row once and takes all 127, so that the compiler reads four of them at a time.
-
-// The rows of a block joined by `|`.
-pub fn joined_rows(b: &[u8]) -> u32
-    requires { length b.now ≡ 512 }
-    ensures { result ≡ joined (word b.now) 127 }
+// f of each row of a block, joined by `|`. The loop takes all 127 rows and uses each once, so that the compiler reads four of them at a time.
+fn joined<F: Fn(u32) -> u32>(b: &Block<'_>, f: F) -> u32
+    requires { F.IsAlwaysCallable f }
+    ensures { (g : ℕ → ℕ) × ((r : ℕ) → r < 127 → F.post f (word b.now.bytes.now r) (g r)) × (result ≡ joined g 127) }
 {
     let mut seen: u32 = 0;
-    let mut i: usize = 0;
-    while i < 127 {
-        seen = seen | word_at(b, 4 * i);
-        i += 1;
+    for i in 0..127 {
+        seen |= f(word_at(b.bytes, 4 * i));
     }
     seen
 }
 
-// Whether each byte of v is below its bound.
-fn below_bounds(v: u32, m: Bounds) -> bool
-    ensures { result ≡ below_bounds m.w m.x m.y m.z v }
+// The rows of a block joined by `|`.
+pub fn joined_rows(b: &Block<'_>) -> u32
+    ensures { result ≡ joined (word b.now.bytes.now) 127 }
 {
-    if v % 256 >= wide32(m.w) {
-        return false;
-    }
-    if v / 256 % 256 >= wide32(m.x) {
-        return false;
-    }
-    if v / 65536 % 256 >= wide32(m.y) {
-        return false;
-    }
-    v / 16777216 < wide32(m.z)
+    joined(b, |v| v)
 }
 
 // Whether one of the four bytes of v is 128 or more.
 fn any_high(v: u32) -> bool
     ensures { result ≡ any_high v }
 {
-    if (v >> 7) % 2 == 1 {
-        return true;
-    }
-    if (v >> 15) % 2 == 1 {
-        return true;
-    }
-    if (v >> 23) % 2 == 1 {
-        return true;
-    }
-    (v >> 31) % 2 == 1
+    v & 2155905152 != 0
 }
 
 // Whether a row of a block has a byte that is 128 or more once k is added.
-fn any_raised(b: &[u8], k: u32) -> bool
-    requires { length b.now ≡ 512 }
-    ensures { Finds (raised_row k b.now) 0 127 result }
+fn any_raised(b: &Block<'_>, k: u32) -> bool
+    ensures { Finds (raised_row k b.now.bytes.now) 0 127 result }
 {
-    let mut high: u32 = 0;
-    let mut i: usize = 0;
-    while i < 127 {
-        high = high | std::num::wrapping_add_u32(word_at(b, 4 * i), k);
-        i += 1;
-    }
-    any_high(high)
+    any_high(joined(b, |v| v.wrapping_add(k)))
 }
 
 // Whether a row of a block has a byte that is not below its bound, 255 in place of a value too. Of a right block without 255 whose V are all powers of
 // two the first test is enough.
-pub fn any_not_below(b: &[u8], m: Bounds) -> bool
-    requires { (length b.now ≡ 512) × SmallBounds m.w m.x m.y m.z }
-    ensures { Finds (over_bounds m.w m.x m.y m.z 0 b.now) 0 127 result }
+pub fn any_not_below(b: &Block<'_>, m: Bounds) -> bool
+    ensures { Finds (over_bounds m.w m.x m.y m.z 0 b.now.bytes.now) 0 127 result }
 {
     let v = joined_rows(b);
-    if below_bounds(v, m) {
+    if m.all_above(v) {
         return false;
     }
-    if any_high(v) {
-        return true;
-    }
-    any_raised(b, word_of(128 - m.w, 128 - m.x, 128 - m.y, 128 - m.z))
+    any_high(v) || any_raised(b, m.slack())
 }
 
 // ---- rows turned
-
-// What the turning of a row adds at place j: 1 at one of the first k, 0 elsewhere.
-fn turn_at(k: usize, j: usize) -> u8
-    ensures { result ≡ one_if (nat_lt j k) }
-{
-    if j < k { 1 } else { 0 }
-}
-
-// The same at the four places.
-fn turn_of(k: usize) -> u32
-    ensures { result ≡ turn_of k }
-{
-    word_of(turn_at(k, 0), turn_at(k, 1), turn_at(k, 2), turn_at(k, 3))
-}
-
-// What is added to a turned row: 128 less its turned bounds.
-fn turned_slack(m: Bounds) -> u32
-    requires { SmallBounds m.w m.x m.y m.z }
-    ensures { result ≡ slack_of m.w m.x m.y m.z - turn_of m.k }
-{
-    word_of(128 - m.w, 128 - m.x, 128 - m.y, 128 - m.z) - turn_of(m.k)
-}
 
 // Row v turned by o. The highest bit of each byte is left out of the sum, so that nothing is carried into the next, and put right after it.
 fn turn(v: u32, o: u32) -> u32
@@ -250,43 +225,45 @@ fn turn(v: u32, o: u32) -> u32
     ((v & 2139062143) + o) ^ (v & 2155905152)
 }
 
-// Whether a row of a block, turned by o, has a byte that is 128 or more, or has one once `slack` is added.
-fn any_turned(b: &[u8], o: u32, slack: u32) -> bool
-    requires { (length b.now ≡ 512) × SmallTurn o }
-    ensures { Finds (turned_row o slack b.now) 0 127 result }
+// Row v turned by o, joined with the same once `slack` is added: a byte of it is 128 or more where one of the two has such a byte.
+fn turned_twice(v: u32, o: u32, slack: u32) -> u32
+    requires { SmallTurn o }
+    ensures { result ≡ bit_or (turned o v) ((turned o v + slack) % 2 ^ 32) }
 {
-    let mut high: u32 = 0;
-    let mut i: usize = 0;
-    while i < 127 {
-        let t = turn(word_at(b, 4 * i), o);
-        high = high | (t | std::num::wrapping_add_u32(t, slack));
-        i += 1;
-    }
-    any_high(high)
+    let t = turn(v, o);
+    t | t.wrapping_add(slack)
 }
 
-// Whether a row of a block has a byte that is over its bound: 255 in place of a value is not.
-pub fn any_over(b: &[u8], m: Bounds) -> bool
-    requires { (length b.now ≡ 512) × SmallBounds m.w m.x m.y m.z }
-    ensures { Finds (over_bounds m.w m.x m.y m.z m.k b.now) 0 127 result }
+// Whether a row of a block, turned by o, has a byte that is 128 or more, or has one once `slack` is added.
+fn any_turned(b: &Block<'_>, o: u32, slack: u32) -> bool
+    requires { SmallTurn o }
+    ensures { Finds (turned_row o slack b.now.bytes.now) 0 127 result }
 {
-    any_turned(b, turn_of(m.k), turned_slack(m))
+    any_high(joined(b, |v| turned_twice(v, o, slack)))
+}
+
+// Whether a row of a block has a byte that is over its bound: 255 in place of a value is not. Where 255 passes nowhere, nothing has to be turned.
+pub fn any_over(b: &Block<'_>, m: Bounds) -> bool
+    ensures { Finds (over_bounds m.w m.x m.y m.z m.k b.now.bytes.now) 0 127 result }
+{
+    if m.k == 0 {
+        return any_not_below(b, m);
+    }
+    let o = m.turn();
+    any_turned(b, o, m.slack() - o)
 }
 
 // How many of the first n rows of a block, from its first on, have no such byte.
-pub fn rows_under(b: &[u8], m: Bounds, n: usize) -> usize
-    requires { (length b.now ≡ 512) × (n ≤ 127) × SmallBounds m.w m.x m.y m.z }
-    ensures { (result ≤ n) × NoneIn (over_bounds m.w m.x m.y m.z m.k b.now) 0 result }
+pub fn rows_under(b: &Block<'_>, m: Bounds, n: usize) -> usize
+    requires { n ≤ 127 }
+    ensures { (result ≤ n) × NoneIn (over_bounds m.w m.x m.y m.z m.k b.now.bytes.now) 0 result }
 {
-    let o = turn_of(m.k);
-    let slack = turned_slack(m);
-    let mut r: usize = 0;
-    while r < n {
-        let t = turn(word_at(b, 4 * r), o);
-        if any_high(t | std::num::wrapping_add_u32(t, slack)) {
+    let o = m.turn();
+    let slack = m.slack() - o;
+    for r in 0..n {
+        if any_high(turned_twice(word_at(b.bytes, 4 * r), o, slack)) {
             return r;
         }
-        r += 1;
     }
-    r
+    n
 }

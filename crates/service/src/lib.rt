@@ -16,12 +16,18 @@ ghost use Rattle.runs.specs.Results.{run_result, run_space};
 pub fn fitting_check(book: &[u8]) -> u64
     ensures { result ≡ check_result book.now }
 {
-    book::check(book)
+    match book::check(book) {
+        Ok(accepted) => accepted.number(),
+        Err(refusal) => refusal.number(),
+    }
 }
 
 pub fn fitting_run(book: &[u8], orders: &[u8], answers: &mut [u8]) -> u64
     ensures value { result ≡ run_result book.now orders.now (length answers.old) }
     ensures answers_after { answers.new ≡ run_space book.now orders.now answers.old }
 {
-    runs::run::run(book, orders, answers)
+    match runs::run::run(book, orders, answers) {
+        Ok(accepted) => accepted,
+        Err(refusal) => refusal.number(),
+    }
 }

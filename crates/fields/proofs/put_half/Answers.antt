@@ -1,6 +1,6 @@
-use Rattle.std.proofs.Common.{arith}
-use Rattle.fields.proofs.Bytes.{half_stored}
+use Rattle.std.proofs.Common.{refl, ap, ◌∙◌, take}
+use Rattle.fields.proofs.Bytes.{over_same, part_over}
 use Rattle.fields.proofs.put_half.Goals as goal
 
 pub returns : goal.returns
-returns c = half_stored c.args.out.now c.args.i c.args.n c.requires (omega arith) (omega arith)
+returns c = part_over _ _ _ _ c.copy_from_slice.ensures.len ∙ over_same _ refl (c.copy_from_slice.ensures.after ∙ ap (take 2) c.to_le_bytes.ensures)

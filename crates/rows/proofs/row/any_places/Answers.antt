@@ -6,6 +6,6 @@ pub returns-then-forbids : goal.returns-then-forbids
 unfolding any_places
 returns-then-forbids c = rw (sym c.forbids.ensures ∙ c.if-forbids.true)
 
-pub returns : goal.returns
+pub returns-else-forbids : goal.returns-else-forbids
 unfolding any_places
-returns c = rw (sym c.forbids.ensures ∙ c.if-forbids.false) c.width.ensures.0
+returns-else-forbids c = rw (sym c.forbids.ensures ∙ c.if-forbids.false) c.width.ensures.0

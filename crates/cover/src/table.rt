@@ -85,11 +85,10 @@ pub fn put_sheet(sheet: &Sheet<'_>, v: u32, rows: &Rows, table: &mut [u32; 1089]
     requires { SheetWords sheet.now.book.now sheet.now.number rows.now.valid rows.now.index rows.now.nonzero × (v < 32) }
     ensures { TableOf sheet.now.book.now sheet.now.number rows.now.valid v table.old table.new }
 {
-    let s = sheet.number;
     let d = only(v);
-    for p in 0..rows.nonzero_words(s) {
-        let w = rows.word_number(s, p);
-        let word = kept(sheet.book, sheet.begin, w, 3, d, rows.valid[8 * s + w]);
+    for p in 0..rows.nonzero_words(sheet.number) {
+        let (w, word) = rows.word(sheet.number, p);
+        let word = kept(sheet.book, sheet.begin, w, 3, d, word);
         put_word(sheet.book, sheet.begin, w, word, table);
     }
 }

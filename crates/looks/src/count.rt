@@ -48,19 +48,11 @@ fn count_sheet(sheet: &Sheet<'_>, n: usize, rows: &Rows) -> [u32; 128]
     requires { SheetWords sheet.now.book.now sheet.now.number rows.now.valid rows.now.index rows.now.nonzero × (n ≡ get_or rows.now.nonzero sheet.now.number 0) }
     ensures { CountsTo (width_of sheet.now.book.now sheet.now.number) sheet.now.book.now sheet.now.number rows.now.valid rows.now.index n result }
 {
-    let s = sheet.number;
     let k = sheet.width();
     let mut counts = [0u32; 128];
     for p in 0..n {
-        let w = rows.word_number(s, p);
-        tally::counted(
-            sheet.book,
-            sheet.begin,
-            w,
-            rows.valid[8 * s + w],
-            k,
-            &mut counts,
-        );
+        let (w, word) = rows.word(sheet.number, p);
+        tally::counted(sheet.book, sheet.begin, w, word, k, &mut counts);
     }
     counts
 }

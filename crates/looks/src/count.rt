@@ -8,7 +8,7 @@ ghost use Rattle.heads.specs.Heads.{forbids_of, width_of};
 ghost use Rattle.words.specs.Sheets.{FindsSupported, SheetWords};
 ghost use Rattle.looks.specs.Counts.{CountsTo, Fewer, NoneAbove, NotFull, NotFullTo, Others};
 
-use cells::bits::*;
+use cells::bits::{Places, only};
 use words::index::Rows;
 use words::sheet::Sheet;
 
@@ -73,12 +73,9 @@ fn not_full(counts: &[u32; 128], j: usize, choices: u32, d: u32) -> u32
     requires { j < 4 }
     ensures { NotFull counts.now j choices d result }
 {
-    let mut left = d as u64;
     let mut keep: u32 = 0;
-    while left != 0 {
-        let v = lowest(left);
+    for v in Places::of(d as u64) {
         keep = with_value(keep, v, counts[32 * j + (v as usize)], choices);
-        left = without_lowest(left);
     }
     keep
 }

@@ -13,7 +13,7 @@ use words::index::Rows;
 pub fn count_values(dom: &[u32; 16]) -> [u32; 16]
     ensures { SizesTo dom.now 16 result }
 {
-    dom.map(u32::count_ones)
+    dom.map(|d| d.count_ones())
 }
 
 // How many choices the places of sheet s have where it has no 255. `shorts` has bit 8 j + 7 set for a place j at which it has one.

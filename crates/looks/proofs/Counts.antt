@@ -22,7 +22,7 @@ use Rattle.model.specs.Stores.{IsStore, has}
 use Rattle.model.specs.Tests.{count, sum, tab}
 use Rattle.model.proofs.Choices.{get_or-pick, length-pick}
 use Rattle.model.proofs.Counting.{Numbered, counted_from, counted_most, counted_to}
-use Rattle.model.proofs.Masks.{bit_high, bit_of_zero, bit-or, bit_pow, bit_pow_other}
+use Rattle.model.proofs.Masks.{bit_below, bit_high, bit_of_zero, bit-or, bit_pow, bit_pow_other}
 use Rattle.model.proofs.Settling.{supported_iff}
 use Rattle.model.proofs.Tallies.{count_le, count_more, count_ones, count_same}
 use Rattle.model.proofs.Tests.{and_i, and_l, and_r, and_true, below, either, get_or-tab, length-tab, or_r, same_test, zeros_at}
@@ -116,6 +116,10 @@ none_above {k} {b} {s} {n} {W = W} {X = X} z h e = record {
 -- v is looked at: it goes into what is kept, or not
 pub record Keeping (C : List ℕ) (j choices d left keep : ℕ) : Type 0 where
   pub at : (v : ℕ) → bit v keep ≡ ((bit v d && not (bit v left)) && not (eqb (count_at C j v) choices))
+
+-- a value that is taken of those that are left
+pub value_left : {left rest d v : ℕ} → d < 2 ^ 32 → Part left d → Cleared left rest v → v < 32
+value_left {v = v} l p c = bit_below 32 _ v l (p.at v c.here)
 
 pub keeping_start : (C : List ℕ) (j choices d : ℕ) → Keeping C j choices d d 0
 keeping_start C j choices d = record { at = λ v. bit_of_zero v ∙ sym (ap (λ (t : Bool). t && not (eqb (count_at C j v) choices)) (never (bit v d))) }

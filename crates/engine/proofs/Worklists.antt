@@ -55,6 +55,15 @@ module _ (b : List ℕ) (acc : Accepted b) where
   pub rows_end : (s : ℕ) → s < sheets_of b → first_byte b s + 512 * blocks_of b s ≤ 16896
   rows_end s l = omega (arith, right_length b (accepted_right b acc).length_right, rows_there s l)
 
+-- a loop over the columns, or the sheets, that the head h of the book counts
+pub one_column : {b h : List ℕ} {n c : ℕ} → Accepted b → h ≡ b → n ≡ columns_of h → c < n → (c < columns_of b) × (c < 16)
+one_column {b} {h} {n} {c} acc e f l =
+    let k : c < columns_of b = omega (arith, f, ap columns_of e) in (k, sixteen_columns b acc c k)
+
+pub one_sheet : {b h : List ℕ} {n s : ℕ} → Accepted b → h ≡ b → n ≡ sheets_of h → s < n → (s < sheets_of b) × (s < 8)
+one_sheet {b} {h} {n} {s} acc e f l =
+    let k : s < sheets_of b = omega (arith, f, ap sheets_of e) in (k, eight_sheets b acc s k)
+
 -- another number than n is below n + 1 exactly when it is below n
 ltb_next : (f n : ℕ) → (f ≡ n → ⊥) → ltb f n ≡ ltb f (n + 1)
 ltb_next f n m = go (below f n)

@@ -22,7 +22,7 @@ use Rattle.book.proofs.Decoding.{accepted_right, any_shows}
 use Rattle.counters.specs.Counters.{cell_place}
 use Rattle.cells.proofs.Walks.{four_all, shifted_one}
 use Rattle.words.specs.Sheets.{ShortPlaces, first_byte, value_at}
-use Rattle.engine.specs.Layouts.{ColumnsIn, LayoutOf}
+use Rattle.engine.specs.Layouts.{ColumnsIn, LayoutOf, SheetsLaid}
 
 -- ---- the columns of a sheet
 
@@ -147,3 +147,6 @@ laid_end acc e h =
       any = λ s l. h.any s (omega arith);
       past = λ s l. h.past s (omega arith);
     }
+
+pub laid_sheets : {b begins scopes shorts : List ℕ} → LayoutOf b begins scopes shorts → SheetsLaid b begins shorts
+laid_sheets h = record { accepted = h.accepted; starts = h.starts; any = h.any }

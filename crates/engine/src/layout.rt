@@ -3,6 +3,7 @@ ghost use Rattle.std.specs.Prelude.{◌≡◌, ◌*◌, ◌<◌, get_or};
 ghost use Rattle.rows.specs.Rows.{first_block};
 ghost use Rattle.heads.specs.Heads.{sheets_of};
 ghost use Rattle.words.specs.Sheets.{ShortPlaces};
+ghost use Rattle.engine.specs.LayoutFacts.{layout_prop};
 ghost use Rattle.engine.specs.Layouts.{ColumnsIn, LayoutOf, SheetsLaid};
 
 use book::Book;
@@ -49,7 +50,7 @@ impl<'a> Sheets<'a> {
 pub struct Layout<'a> {
     pub sheets: Sheets<'a>,
     pub scopes: [u32; 8],
-    ghost all: { LayoutOf sheets.book.now sheets.begins scopes sheets.shorts },
+    ghost all: { LayoutOf sheets.book.now sheets.begins scopes sheets.shorts } by { layout_prop sheets.book.now sheets.begins scopes sheets.shorts },
 }
 
 // The columns of sheet s as a mask.

@@ -11,6 +11,7 @@ use crate::limit::*;
 use fields::word_at;
 
 // Whether the length is no book's.
+#[tactic(auto, unfolding(crate::specs::Blocks::wrong_length))]
 pub fn wrong_length(book: &[u8]) -> bool
     ensures { result ≡ wrong_length book.now }
 {

@@ -16,27 +16,14 @@ use Rattle.heads.specs.Heads.{rows_of}
 use Rattle.rows.specs.Rows.{any_places, blocks_of, bound_of, first_block, is_value, is_wrong, row_place, wrong_block, wrong_byte, over_at}
 use Rattle.heads.proofs.Blocks.{block_byte}
 use Rattle.heads.proofs.Limits.{set_leb}
-use Rattle.rows.proofs.Words.{below_each, by_bytes, either_bytes, high_bytes, high_each, high_or, high_over, high_zero, joined-bit, joined_le, joined_lt, minus_bytes, one_small, plain_over, raised_bytes, turn_over, turned_bytes}
+use Rattle.rows.proofs.Words.{below_each, by_bytes, either_bytes, high_bytes, high_each, high_or, high_over, joined-bit, joined_high, joined_le, joined_lt, minus_bytes, one_small, plain_over, raised_bytes, turn_over, turned_bytes}
 
 -- ---- the rows of a block
--- one row more is joined, raised or turned
-pub joined_more : (f : ℕ → ℕ) (i seen v : ℕ) → seen ≡ joined f i → v ≡ f i → bit_or seen v ≡ joined f (i + 1)
-unfolding joined
-joined_more f i seen v hs hv = rw (hs, hv, add-one)
-
-pub raised_more : (block : List ℕ) (k i seen row lifted : ℕ) → row ≡ word block i → lifted ≡ (row + k) % 2 ^ 32
-    → any_high (bit_or seen lifted) ≡ (any_high seen || raised_row k block i)
-unfolding raised_row
-raised_more block k i seen row lifted hr hs = rw (high_or seen lifted, hs, hr)
-
-pub turned_high : (block : List ℕ) (o slack i row t lifted : ℕ) → row ≡ word block i → t ≡ turned o row → lifted ≡ (t + slack) % 2 ^ 32
-    → any_high (bit_or t lifted) ≡ turned_row o slack block i
+-- a row turned, joined with the same once the slack is added
+pub turned_high : (block : List ℕ) (o slack i v y : ℕ) → v ≡ word block i → y ≡ bit_or (turned o v) ((turned o v + slack) % 2 ^ 32)
+    → any_high y ≡ turned_row o slack block i
 unfolding turned_row
-turned_high block o slack i row t lifted hr ht hs = rw (high_or t lifted, hs, ht, hr)
-
-pub turned_more : (block : List ℕ) (o slack i seen row t lifted : ℕ) → row ≡ word block i → t ≡ turned o row → lifted ≡ (t + slack) % 2 ^ 32
-    → any_high (bit_or seen (bit_or t lifted)) ≡ (any_high seen || turned_row o slack block i)
-turned_more block o slack i seen row t lifted hr ht hs = rw (high_or seen (bit_or t lifted), turned_high block o slack i row t lifted hr ht hs)
+turned_high block o slack i v y hv hy = rw (hy, high_or (turned o v) ((turned o v + slack) % 2 ^ 32), hv)
 
 module _ (block : List ℕ) (bytes : (i : ℕ) → byte_at block i < 256) where
   -- the bytes at each place of the rows
@@ -78,14 +65,6 @@ module _ (block : List ℕ) (bytes : (i : ℕ) → byte_at block i < 256) where
             );
       }
 
-  -- a byte of the joined rows is 128 or more exactly when one of a row is
-  joined_high : (n : ℕ) → Finds (λ r. any_high (word block r)) 0 n (any_high (joined (word block) n))
-  unfolding joined
-  joined_high zero = rw high_zero (finds_empty (le_refl 0))
-  joined_high (suc n) =
-      rw (high_or (joined (word block) n) (word block n))
-      (rw add-one at (finds_more (any_high (joined (word block) n)) (omega arith) (joined_high n)))
-
   row_bytes : (r : ℕ) → any_high (word block r) ≡ (leb 128 (at0 r) || (leb 128 (at1 r) || (leb 128 (at2 r) || leb 128 (at3 r))))
   row_bytes r = high_bytes (at0 r) (at1 r) (at2 r) (at3 r) (bytes _) (bytes _) (bytes _) (bytes _)
 
@@ -94,7 +73,7 @@ module _ (block : List ℕ) (bytes : (i : ℕ) → byte_at block i < 256) where
     pub high_found : any_high (joined (word block) n) ≡ true → Finds (over_bounds w x y z 0 block) 0 n true
     unfolding over_bounds
     high_found e =
-        let r = (joined_high n).some e in
+        let r = (joined_high (word block) n).some e in
         record {
           none = λ t. absurd (false≢true (sym t));
           some = λ t. (r.0, r.1, r.2, rw (strict w, strict x, strict y, strict z) (high_over w x y z _ _ _ _ (omega (arith, few.0), omega (arith, few.1), omega (arith, few.2), omega (arith, few.3)) (sym (row_bytes r.0) ∙ r.3)));
@@ -111,7 +90,7 @@ module _ (block : List ℕ) (bytes : (i : ℕ) → byte_at block i < 256) where
       where
         same : (r : ℕ) → r < n → raised_row (slack_of w x y z) block r ≡ over_bounds w x y z k block r
         same r p =
-            let low = sym (row_bytes r) ∙ ((joined_high n).none e).at r (omega arith) p in
+            let low = sym (row_bytes r) ∙ ((joined_high (word block) n).none e).at r (omega arith) p in
             let low1 = or_false_r (leb 128 (at0 r)) _ low in
             let low2 = or_false_r (leb 128 (at1 r)) _ low1 in
             let l0 = leb-false 128 _ (or_false_l _ _ low) in

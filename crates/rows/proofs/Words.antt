@@ -1,13 +1,14 @@
 -- Laws of rows as 32-bit numbers: their highest bits, joined by `|`, raised by a slack and turned, beside the bounds of their bytes. Assumes nothing.
-use Rattle.std.proofs.Common.{◌≡◌, ℕ, zero, suc, ◌+◌, ◌-◌, ◌*◌, ◌/◌, ◌%◌, ◌^◌, ◌<◌, ◌≤◌, Bool, true, false, not, ◌&&◌, ◌||◌, eqb, ltb, leb, ◌⊎◌, sym, refl, ap, ◌∙◌, ap₂, inl, inr, add-zero, arith, ltb-true, le-ltb, eq-eqb, ne_eqb, le-leb, leb-false, leb-true}
+use Rattle.std.proofs.Common.{◌≡◌, ℕ, zero, suc, ◌+◌, ◌-◌, ◌*◌, ◌/◌, ◌%◌, ◌^◌, ◌<◌, ◌≤◌, Bool, true, false, not, cond, ◌&&◌, ◌||◌, eqb, ltb, leb, ◌⊎◌, sym, refl, ap, ◌∙◌, ap₂, inl, inr, le_refl, add-zero, add-one, arith, ltb-true, le-ltb, lt-ltb, eq-eqb, ne_eqb, le-leb, leb-false, leb-true}
 use lib.Bits.{bit_and, bit_or, bit_xor, and_block, and_high, and_le_l, and_le_r, and_mask, or_add_and, or_lt, xor_block, xor_comm, xor_shifted, xor_zero_r}
 use borrow.Author.Tests.{lt-leb}
 use Rattle.model.specs.Masks.{bit}
-use Rattle.model.specs.Tests.{one_if}
+use Rattle.model.specs.Tests.{Finds, one_if}
+use Rattle.model.proofs.Firsts.{finds_empty, finds_more, finds_same}
 use Rattle.model.proofs.Masks.{bit-or}
 use Rattle.model.proofs.Tests.{and_false, and_l, and_r, and_true, below, either, or_false_l, or_false_r, or_l, or_mono, or_r, or_swap}
 use Rattle.rows.specs.Rows.{over_at}
-use Rattle.rows.specs.Bounds.{any_high, below_bounds, joined, slack_of, turn_of, turned, SmallTurn}
+use Rattle.rows.specs.Bounds.{any_high, below_bounds, joined, Joins, slack_of, turn_of, turned, SmallTurn}
 
 -- ---- the highest bits of the four bytes of a number
 -- the last digit of m / 2 ^ v is the highest bit of the byte p: then bit v of m tells whether p is 128 or more
@@ -67,6 +68,38 @@ module _ (op : ℕ → ℕ → ℕ) (runs : (k a b r s : ℕ) → r < 2 ^ k → 
       ∙ runs 8 ((d * 2 ^ 8 + c) * 2 ^ 8 + b) ((s * 2 ^ 8 + r) * 2 ^ 8 + q) a p ha hp
       ∙ omega (arith, runs 8 (d * 2 ^ 8 + c) (s * 2 ^ 8 + r) b q hb hq, runs 8 d s c r hc hr)
 
+-- a byte's highest bit, by a mask
+high_byte : (p : ℕ) → p < 256 → (p < 128 → bit_and p 128 ≡ 0) × (128 ≤ p → bit_and p 128 ≡ 128)
+high_byte p l = (λ k. and_high p 1 7 ∙ omega arith, λ k. and_high p 1 7 ∙ omega arith)
+
+-- the highest bits of four bytes
+pub high_mask : (v m : ℕ) → m ≡ 2155905152 → v < 2 ^ 32 → not (eqb (bit_and v m) 0) ≡ any_high v
+high_mask v m h l =
+    let a = v % 256 in
+    let b = v / 256 % 256 in
+    let c = v / 65536 % 256 in
+    let d = v / 16777216 in
+    let e : v ≡ a + b * 256 + c * 65536 + d * 16777216 = omega arith in
+    let mask : bit_and v m ≡ bit_and a 128 + bit_and b 128 * 256 + bit_and c 128 * 65536 + bit_and d 128 * 16777216 =
+    ap₂ bit_and e h ∙ by_bytes bit_and and_block a b c d 128 128 128 128 (omega arith) (omega arith) (omega arith) (omega arith) (omega arith) (omega arith) in
+    rw mask (four a b c d (omega arith) (omega arith) (omega arith) (omega arith) ∙ ap any_high (sym e))
+  where
+    four : (a b c d : ℕ) → a < 256 → b < 256 → c < 256 → d < 256
+        → not (eqb (bit_and a 128 + bit_and b 128 * 256 + bit_and c 128 * 65536 + bit_and d 128 * 16777216) 0) ≡ any_high (a + b * 256 + c * 65536 + d * 16777216)
+    four a b c d ha hb hc hd = go (below a 128) (below b 128) (below c 128) (below d 128) ∙ sym (high_bytes a b c d ha hb hc hd)
+      where
+        some : {n : ℕ} → 0 < n → not (eqb n 0) ≡ true
+        some {n} l = ap not (ne_eqb n 0 (λ z. omega arith))
+
+        go : (a < 128) ⊎ (128 ≤ a) → (b < 128) ⊎ (128 ≤ b) → (c < 128) ⊎ (128 ≤ c) → (d < 128) ⊎ (128 ≤ d)
+            → not (eqb (bit_and a 128 + bit_and b 128 * 256 + bit_and c 128 * 65536 + bit_and d 128 * 16777216) 0) ≡ (leb 128 a || (leb 128 b || (leb 128 c || leb 128 d)))
+        go (inr p) q r s = rw (le-leb 128 a p) (some (omega (arith, (high_byte a ha).1 p)))
+        go (inl p) (inr q) r s = rw (lt-leb 128 a p, le-leb 128 b q) (some (omega (arith, (high_byte b hb).1 q)))
+        go (inl p) (inl q) (inr r) s = rw (lt-leb 128 a p, lt-leb 128 b q, le-leb 128 c r) (some (omega (arith, (high_byte c hc).1 r)))
+        go (inl p) (inl q) (inl r) (inr s) = rw (lt-leb 128 a p, lt-leb 128 b q, lt-leb 128 c r, le-leb 128 d s) (some (omega (arith, (high_byte d hd).1 s)))
+        go (inl p) (inl q) (inl r) (inl s) =
+            rw (lt-leb 128 a p, lt-leb 128 b q, lt-leb 128 c r, lt-leb 128 d s, (high_byte a ha).0 p, (high_byte b hb).0 q, (high_byte c hc).0 r, (high_byte d hd).0 s)
+
 -- bytes taken from bytes that are no lower
 pub minus_bytes : (a b c d p q r s t u v w : ℕ) → a ≡ t + p → b ≡ u + q → c ≡ v + r → d ≡ w + s
     → a + b * 256 + c * 65536 + d * 16777216 - (p + q * 256 + r * 65536 + s * 16777216) ≡ t + u * 256 + v * 65536 + w * 16777216
@@ -98,6 +131,49 @@ joined-bit f v (suc n) r p e = bit-or v (joined f n) (f n) ∙ go (below r n) (j
     go : (r < n) ⊎ (n ≤ r) → (r < n → bit v (f r) ≡ true → bit v (joined f n) ≡ true) → (bit v (joined f n) || bit v (f n)) ≡ true
     go (inl l) h = or_l (bit v (joined f n)) _ (h l e)
     go (inr l) h = let k : n ≡ r = omega arith in or_r (bit v (joined f n)) _ (ap (λ (m : ℕ). bit v (f m)) k ∙ e)
+
+-- the same numbers are joined to the same
+joined_same : (f g : ℕ → ℕ) (n : ℕ) → ((r : ℕ) → r < n → f r ≡ g r) → joined f n ≡ joined g n
+unfolding joined
+joined_same f g zero h = refl
+joined_same f g (suc n) h = ap₂ bit_or (joined_same f g n (λ r p. h r (omega arith))) (h n (omega arith))
+
+-- a byte of joined numbers is 128 or more exactly when one of a number is
+pub joined_high : (f : ℕ → ℕ) (n : ℕ) → Finds (λ r. any_high (f r)) 0 n (any_high (joined f n))
+unfolding joined
+joined_high f zero = rw high_zero (finds_empty (le_refl 0))
+joined_high f (suc n) = rw (high_or (joined f n) (f n)) (rw add-one at (finds_more (any_high (joined f n)) (omega arith) (joined_high f n)))
+
+module _ {P : ℕ → ℕ → Type 0} where
+  pub joins_none : Joins P 0 0
+  unfolding joined
+  joins_none = record { each = λ r. 0; passes = λ r p. absurd (omega arith); all = refl }
+
+  -- one number more
+  pub joins_more : {n seen v : ℕ} → Joins P n seen → P n v → Joins P (n + 1) (bit_or seen v)
+  unfolding joined
+  joins_more {n} {seen} {v} h p = record { each = next; passes = λ r l. go r l (below r n); all = ap₂ bit_or (h.all ∙ joined_same h.each next n (λ r l. sym (before r l))) (sym last) ∙ rw add-one refl }
+    where
+      next : ℕ → ℕ
+      next r = cond (ltb r n) (h.each r) v
+
+      before : (r : ℕ) → r < n → next r ≡ h.each r
+      before r l = rw (lt-ltb r n l)
+
+      last : next n ≡ v
+      last = rw (le-ltb n n (le_refl n))
+
+      go : (r : ℕ) → r < n + 1 → (r < n) ⊎ (n ≤ r) → P r (next r)
+      go r l (inl k) = rw (before r k) (h.passes r k)
+      go r l (inr k) = let e : r ≡ n = omega arith in rw (e, last) p
+
+  -- where each of them is a known number, these are joined
+  pub joins_joined : {n v : ℕ} (f : ℕ → ℕ) → ((r y : ℕ) → r < n → P r y → y ≡ f r) → Joins P n v → v ≡ joined f n
+  joins_joined {n} f e h = h.all ∙ joined_same h.each f n (λ r l. e r (h.each r) l (h.passes r l))
+
+  -- a byte of them is 128 or more exactly when one of a number is
+  pub joins_high : {n v : ℕ} (t : ℕ → Bool) → ((r y : ℕ) → r < n → P r y → any_high y ≡ t r) → Joins P n v → Finds t 0 n (any_high v)
+  joins_high {n} t e h = rw h.all (finds_same (λ r l p. e r (h.each r) p (h.passes r p)) (joined_high h.each n))
 
 -- joined bytes are a byte
 pub joined_lt : (f : ℕ → ℕ) (n : ℕ) → ((r : ℕ) → f r < 256) → joined f n < 256

@@ -73,6 +73,12 @@ unfoldable pub joined : (ℕ → ℕ) → ℕ → ℕ
 joined f zero = 0
 joined f (suc n) = bit_or (joined f n) (f n)
 
+-- v is n numbers joined by `|`, of which number r passes P r: what a loop over the rows gives of a step that it is passed
+pub record Joins (P : ℕ → ℕ → Type 0) (n v : ℕ) : Type 0 where
+  pub each : ℕ → ℕ
+  pub passes : (r : ℕ) → r < n → P r (each r)
+  pub all : v ≡ joined each n
+
 -- each byte of v is below its bound
 unfoldable pub below_bounds : ℕ → ℕ → ℕ → ℕ → ℕ → Bool
 below_bounds w x y z v = nat_lt (v % 256) w && (nat_lt (v / 256 % 256) x && (nat_lt (v / 65536 % 256) y && nat_lt (v / 16777216) z))

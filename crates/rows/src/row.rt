@@ -13,12 +13,12 @@
 //     row     3       255     0       0           two values, V = 4 and 7
 //     turned  4       0       0       0           one of 128 or more is over its bound; where none is, the sum is as above
 //     slack   128-5   128-8   128-1   128-1
-ghost use Rattle.std.specs.Prelude.{◌≡◌, ℕ, ◌+◌, ◌-◌, ◌*◌, ◌/◌, ◌%◌, ◌^◌, ◌<◌, ◌≤◌, bit_or, nat_lt};
+ghost use Rattle.std.specs.Prelude.{◌≡◌, ◌+◌, ◌-◌, ◌*◌, ◌/◌, ◌%◌, ◌^◌, ◌<◌, ◌≤◌, bit_or, nat_lt};
 ghost use Rattle.model.specs.Tests.{Finds, NoneIn, one_if};
 ghost use Rattle.heads.specs.Blocks.{RightLength, block_count, word};
 ghost use Rattle.heads.specs.Heads.{sheets_of, RightHead};
 ghost use Rattle.rows.specs.Rows.{any_places, blocks_of, first_block, blocks_needed, over_at};
-ghost use Rattle.rows.specs.Bounds.{fourth, place_bound, used_rows, over_bounds, RowBounds, SmallBounds, joined, below_bounds, any_high, raised_row, slack_of, SmallTurn, turn_of, turned, turned_row};
+ghost use Rattle.rows.specs.Bounds.{fourth, place_bound, used_rows, over_bounds, RowBounds, SmallBounds, joined, Joins, below_bounds, any_high, raised_row, slack_of, SmallTurn, turn_of, turned, turned_row};
 
 use fields::word_at;
 use heads::block::Block;
@@ -37,11 +37,7 @@ pub fn first_block(h: &Head<'_>, s: usize) -> usize
     requires { s ≤ 8 }
     ensures { (result ≡ first_block h.now.bytes.now s) × (result < 65536) }
 {
-    let mut n: usize = 1;
-    for t in 0..s {
-        n += blocks_of(h, t);
-    }
-    n
+    1 + (0..s).map(|t| blocks_of(h, t)).sum::<usize>()
 }
 
 // The blocks that the head and the sheets need; there are at most eight sheets.
@@ -173,7 +169,7 @@ impl Bounds {
 // f of each row of a block, joined by `|`. The loop takes all 127 rows and uses each once, so that the compiler reads four of them at a time.
 fn joined<F: Fn(u32) -> u32>(b: &Block<'_>, f: F) -> u32
     requires { F.IsAlwaysCallable f }
-    ensures { (g : ℕ → ℕ) × ((r : ℕ) → r < 127 → F.post f (word b.now.bytes.now r) (g r)) × (result ≡ joined g 127) }
+    ensures { Joins (λ r. F.post f (word b.now.bytes.now r)) 127 result }
 {
     let mut seen: u32 = 0;
     for i in 0..127 {

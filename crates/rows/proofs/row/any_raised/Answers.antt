@@ -1,15 +1,11 @@
-use Rattle.std.proofs.Common.{◌≡◌, le_refl, arith, rules}
-use Rattle.model.proofs.Firsts.{finds_empty, finds_more}
-use Rattle.rows.proofs.Bounds.{raised_more}
-use Rattle.rows.proofs.Words.{high_zero}
+use Rattle.std.proofs.Common.{◌≡◌, ◌+◌, ◌%◌, ◌^◌, rules}
+use Rattle.heads.specs.Blocks.{word}
+use Rattle.rows.specs.Bounds.{raised_row}
+use Rattle.rows.proofs.Words.{joins_high}
 use Rattle.rows.proofs.row.any_raised.Goals as goal
 
-pub loop-i-init : goal.loop-i-init
-loop-i-init c = (search rules, rw high_zero (finds_empty (le_refl _)))
-
-pub loop-i-preserved : goal.loop-i-preserved
-loop-i-preserved c = let k = c.args in
-    (search rules, rw (raised_more k.b.now k.k c.loop-i.i _ _ _ c.word_at.ensures c.wrapping_add_u32-high.ensures.value) (finds_more _ (search rules) c.loop-i.invariant.1))
-
 pub returns : goal.returns
-returns c = let e : c.loop-i.i ≡ 127 = omega arith in rw c.any_high.ensures (rw e at c.loop-i.invariant.1)
+unfolding raised_row
+returns c =
+    rw c.any_high.ensures
+    (joins_high _ (λ r y l e. let h : y ≡ (word c.args.b.now.bytes.now r + c.args.k) % 2 ^ 32 = search rules in rw h) c.joined.ensures)

@@ -1,15 +1,7 @@
-use Rattle.std.proofs.Common.{◌≡◌, le_refl, arith, rules}
-use Rattle.model.proofs.Firsts.{finds_empty, finds_more}
-use Rattle.rows.proofs.Bounds.{turned_more}
-use Rattle.rows.proofs.Words.{high_zero}
+use Rattle.std.proofs.Common.{refl, rules}
+use Rattle.rows.proofs.Bounds.{turned_high}
+use Rattle.rows.proofs.Words.{joins_high}
 use Rattle.rows.proofs.row.any_turned.Goals as goal
 
-pub loop-i-init : goal.loop-i-init
-loop-i-init c = (search rules, rw high_zero (finds_empty (le_refl _)))
-
-pub loop-i-preserved : goal.loop-i-preserved
-loop-i-preserved c = let k = c.args in
-    (search rules, rw (turned_more k.b.now k.o k.slack c.loop-i.i _ _ _ _ c.word_at.ensures c.turn-t.ensures c.wrapping_add_u32.ensures.value) (finds_more _ (search rules) c.loop-i.invariant.1))
-
 pub returns : goal.returns
-returns c = let e : c.loop-i.i ≡ 127 = omega arith in rw c.any_high.ensures (rw e at c.loop-i.invariant.1)
+returns c = rw c.any_high.ensures (joins_high _ (λ r y l e. turned_high c.args.b.now.bytes.now _ _ r _ y refl (search rules)) c.joined.ensures)

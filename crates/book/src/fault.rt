@@ -8,22 +8,11 @@ ghost use Rattle.book.specs.Verdicts.{row_verdict};
 
 use crate::refused::Refusal;
 use faults::doubt::*;
+use faults::sheet::*;
 use faults::wrong::*;
 use heads::block::*;
 use heads::head::*;
 use rows::row::*;
-
-// Sheet s of a book whose blocks are there.
-pub fn sheet_at<'a>(book: &Whole<'a>, s: usize) -> SheetRows<'a>
-    requires { s < sheets_of book.now.bytes.now }
-    ensures { (result.bytes.now ≡ book.now.bytes.now) × (result.s ≡ s) }
-{
-    SheetRows {
-        bytes: book.bytes,
-        s,
-        start: first_block(&book.head(), s),
-    }
-}
 
 // Whether byte j of row r of sheet s is a value.
 fn is_value(head: &Head<'_>, s: usize, r: usize, j: usize) -> bool
@@ -34,27 +23,27 @@ fn is_value(head: &Head<'_>, s: usize, r: usize, j: usize) -> bool
 }
 
 // The refusal for byte i of block q of a sheet, which is wrong.
-fn fault_at(sheet: &SheetRows<'_>, q: usize, i: usize) -> Refusal
-    requires { (sheet.now.s < 8) × (sheet.now.start + q ≤ 33) × (i ≤ 508) }
-    ensures { row_verdict sheet.now.bytes.now (fault_at sheet.now.bytes.now sheet.now.s q i) ≡ verdict_of result }
+fn fault_at(sheet: &SheetBlocks<'_>, q: usize, i: usize) -> Refusal
+    requires { (sheet.now.number < 8) × (sheet.now.start + q ≤ 33) × (i ≤ 508) }
+    ensures { row_verdict sheet.now.book.now (fault_at sheet.now.book.now sheet.now.number q i) ≡ verdict_of result }
 {
     let place = (128 * (sheet.start + q) + i / 4) as u16;
-    if is_value(&Head::of(sheet.bytes), sheet.s, 127 * q + i / 4, i % 4) {
+    if is_value(&Head::of(sheet.book), sheet.number, 127 * q + i / 4, i % 4) {
         return Refusal::Value(place);
     }
     Refusal::Filler(place)
 }
 
 // The first wrong byte of block q of a sheet.
-fn first_in_block(sheet: &SheetRows<'_>, q: usize) -> Option<usize>
-    requires { RightHead sheet.now.bytes.now × (sheet.now.s < sheets_of sheet.now.bytes.now) × (q < blocks_of sheet.now.bytes.now sheet.now.s) }
-    ensures { FirstOf (wrong_byte sheet.now.bytes.now sheet.now.s q) 0 508 result }
+fn first_in_block(sheet: &SheetBlocks<'_>, q: usize) -> Option<usize>
+    requires { RightHead sheet.now.book.now × (sheet.now.number < sheets_of sheet.now.book.now) × (q < blocks_of sheet.now.book.now sheet.now.number) }
+    ensures { FirstOf (wrong_byte sheet.now.book.now sheet.now.number q) 0 508 result }
 {
-    let head = Head::of(sheet.bytes);
+    let head = Head::of(sheet.book);
     seek_wrong(
-        &Block::of(sheet.bytes, sheet.start + q),
-        bounds_of(&head, sheet.s),
-        used_rows(head.rows(sheet.s), q),
+        &Block::of(sheet.book, sheet.start + q),
+        bounds_of(&head, sheet.number),
+        used_rows(head.rows(sheet.number), q),
     )
 }
 
@@ -64,7 +53,7 @@ fn check_sheet(book: &Whole<'_>, s: usize) -> Result<(), Refusal>
     ensures right { IfOk result (λ _. wrong_sheet book.now.bytes.now s ≡ false) }
     ensures wrong { IfErr result (λ e. (wrong_sheet book.now.bytes.now s ≡ true) × (row_verdict book.now.bytes.now (fault_in_sheet book.now.bytes.now s) ≡ verdict_of e)) }
 {
-    let sheet = sheet_at(book, s);
+    let sheet = SheetBlocks::of(book, s);
     match first_in_sheet(&sheet) {
         None => Ok(()),
         Some(q) => {

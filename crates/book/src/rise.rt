@@ -5,10 +5,9 @@ ghost use Rattle.rows.specs.Rows.{fall_place, falls_in};
 ghost use Rattle.book.specs.Refusals.{verdict_of};
 ghost use Rattle.book.specs.Verdicts.{accepted, bad_order, order_verdict};
 
-use crate::fault::sheet_at;
 use crate::refused::Refusal;
-use faults::doubt::*;
 use faults::fall::*;
+use faults::sheet::*;
 use heads::head::*;
 use rows::row::*;
 
@@ -29,7 +28,7 @@ fn check_sheet(book: &Whole<'_>, s: usize) -> Result<(), Refusal>
     if !book.head().forbids(s) {
         return Ok(());
     }
-    let sheet = sheet_at(book, s);
+    let sheet = SheetBlocks::of(book, s);
     match first_fall_in(&sheet) {
         None => Ok(()),
         Some(r) => Err(fall_at(sheet.start, r)),

@@ -42,14 +42,11 @@ bit_first (suc k) m h (suc v) l =
 bit_second : (m h v : ℕ) → m < 2 ^ 32 → bit (v + 32) (m + 2 ^ 32 * h) ≡ bit v h
 bit_second m h v l = let e : (m + 2 ^ 32 * h) / 2 ^ 32 ≡ h = omega arith in sym (bit_moved v 32 (m + 2 ^ 32 * h)) ∙ ap (bit v) e
 
-pub low_half : (m x : ℕ) → x / 32 % 2 ≡ 0 → bit (x % 32) (m % 2 ^ 32) ≡ bit (x % 64) m
-low_half m x e =
-    let z : x % 64 ≡ x % 32 = omega arith in
-    let parts : m % 2 ^ 32 + 2 ^ 32 * (m / 2 ^ 32) ≡ m = omega arith in
-    sym (bit_first 32 (m % 2 ^ 32) (m / 2 ^ 32) (x % 32) (omega arith)) ∙ rw (parts, z) refl
+pub low_half : (low high x : ℕ) → x / 32 % 2 ≡ 0 → bit (x % 32) low ≡ bit (x % 64) (low + 2 ^ 32 * high)
+low_half low high x e = let z : x % 64 ≡ x % 32 = omega arith in rw z (sym (bit_first 32 low high (x % 32) (omega arith)))
 
-pub high_half : (m x : ℕ) → (x / 32 % 2 ≡ 0 → ⊥) → bit (x % 32) (m / 2 ^ 32) ≡ bit (x % 64) m
-high_half m x n = let z : x % 64 ≡ x % 32 + 32 = omega arith in bit_moved (x % 32) 32 m ∙ ap (λ (i : ℕ). bit i m) (sym z)
+pub high_half : (low high x : ℕ) → low < 2 ^ 32 → (x / 32 % 2 ≡ 0 → ⊥) → bit (x % 32) high ≡ bit (x % 64) (low + 2 ^ 32 * high)
+high_half low high x l n = let z : x % 64 ≡ x % 32 + 32 = omega arith in rw z (sym (bit_second low high (x % 32) l))
 
 -- ---- a row read as one number
 pub from_place : (b : List ℕ) (at j : ℕ) {row : ℕ} → j < 4 → ((i : ℕ) → i < 4 → byte_at b (at + i) < 256) → row ≡ word_at b at → row / 2 ^ (8 * j) % 64 ≡ byte_at b (at + j) % 64

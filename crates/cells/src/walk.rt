@@ -48,14 +48,14 @@ fn kept_set<S: Step>(book: &[u8], p: Counters, j: usize, m: u64, word: u64) -> u
     keep
 }
 
-// The half of the 64 places m in which the place of the cell x is.
-fn half_for(m: u64, x: u32) -> u32
-    ensures { bit (x % 32) result ≡ bit (x % 64) m }
+// Of the 64 places, lent as two halves, the one in which the place of the cell x is.
+fn half_for(low: u32, high: u32, x: u32) -> u32
+    ensures { bit (x % 32) result ≡ bit (x % 64) (low + 2 ^ 32 * high) }
 {
     if x / 32 % 2 == 0 {
-        return (m % 4294967296) as u32;
+        return low;
     }
-    (m / 4294967296) as u32
+    high
 }
 
 // The row at byte `at` from place j on: its lowest bits are those of the cell there.
@@ -78,14 +78,15 @@ fn with_place(keep: u32, k: u32, d: u32, v: u32) -> u32
 }
 
 // The n rows from row `from` on, set or not. No row waits for the one before, and each is read as one number: so the compiler looks at four at a time.
-fn kept_run(book: &[u8], p: Counters, from: usize, n: u32, j: u32, m: u64) -> u32
+// The halves of the places come apart: with m in their place, tried, the walk over all rows takes 1.6 times as long.
+fn kept_run(book: &[u8], p: Counters, from: usize, n: u32, j: u32, low: u32, high: u32) -> u32
     requires { (j < 4) × (n ≤ 32) × (from + n ≤ 60) × Stretch same_block book.now p (2 ^ 60 - 1) }
-    ensures { KeptRun book.now p.begin (64 * p.word + from) n j m result }
+    ensures { KeptRun book.now p.begin (64 * p.word + from) n j (low + 2 ^ 32 * high) result }
 {
     let mut keep: u32 = 0;
     for k in 0..n {
         let x = row_from(book, p.at_near(from + (k as usize)).at, j);
-        keep = with_place(keep, k, half_for(m, x), x % 32);
+        keep = with_place(keep, k, half_for(low, high, x), x % 32);
     }
     keep
 }
@@ -95,8 +96,10 @@ fn kept_all(book: &[u8], p: Counters, j: usize, m: u64) -> u64
     requires { (j < 4) × Stretch same_block book.now p (2 ^ 60 - 1) }
     ensures { KeptBy book.now p.begin (64 * p.word) j m (2 ^ 60 - 1) result }
 {
-    let first = kept_run(book, p, 0, 32, j as u32, m) as u64;
-    let second = kept_run(book, p, 32, 28, j as u32, m) as u64;
+    let low = (m % 4294967296) as u32;
+    let high = (m / 4294967296) as u32;
+    let first = kept_run(book, p, 0, 32, j as u32, low, high) as u64;
+    let second = kept_run(book, p, 32, 28, j as u32, low, high) as u64;
     first | (second << 32)
 }
 

@@ -45,9 +45,8 @@ module _ (b : List ℕ) where
       ≡ cond (ltb i 24) (wrong_values b (i - 8)) (cond (ltb i 88) (wrong_entry b ((i - 24) / 8) ((i - 24) % 8)) (set_at b i))
   past i p = later i (omega arith) ∙ rw (le-ltb i 8 p)
 
-  pub field_values : (c : ℕ) → c < 16 → wrong_field b (8 + c) ≡ wrong_values b c
-  field_values c p =
-      let e : 8 + c - 8 ≡ c = omega arith in past (8 + c) (omega arith) ∙ rw (lt-ltb (8 + c) 24 (omega arith), e)
+  pub field_values : (i : ℕ) → 8 ≤ i → i < 24 → wrong_field b i ≡ wrong_values b (i - 8)
+  field_values i p q = past i p ∙ rw (lt-ltb i 24 q)
 
   pub field_rest : (i : ℕ) → 88 ≤ i → wrong_field b i ≡ set_at b i
   field_rest i p = past i (omega arith) ∙ rw (le-ltb i 24 (omega arith), le-ltb i 88 p)
@@ -77,12 +76,12 @@ module _ (b : List ℕ) where
     unfolding wrong_in_entry
     field_width = field_used (24 + 8 * s) 0 (omega arith) (omega arith)
 
-    pub field_column : (j : ℕ) → j < 4 → wrong_field b (25 + 8 * s + j) ≡ wrong_column b s j
+    pub field_column : (i : ℕ) → 25 + 8 * s ≤ i → i < 29 + 8 * s → wrong_field b i ≡ wrong_column b s (i - (25 + 8 * s))
     unfolding wrong_in_entry
-    field_column j q =
-        let e : 1 + j - 1 ≡ j = omega arith in
-        field_used (25 + 8 * s + j) (1 + j) (omega arith) (omega arith)
-        ∙ rw (ne_eqb (1 + j) 0 (λ z. omega arith), lt-ltb (1 + j) 5 (omega arith), e)
+    field_column i p q =
+        let o = i - (24 + 8 * s) in
+        let e : o - 1 ≡ i - (25 + 8 * s) = omega arith in
+        field_used i o (omega arith) (omega arith) ∙ rw (ne_eqb o 0 (λ z. omega arith), lt-ltb o 5 (omega arith), e)
 
     pub field_five : wrong_field b (29 + 8 * s) ≡ set_at b (29 + 8 * s)
     unfolding wrong_in_entry
@@ -126,8 +125,9 @@ module _ (b : List ℕ) (h : RightHead b) where
   pub values_range : (c : ℕ) → c < columns_of b → (1 ≤ values_of b c) × (values_of b c ≤ 32)
   unfolding wrong_values
   values_range c p =
-      let q : c < 16 = omega (arith, columns_range.1) in
-      in_range 1 32 (values_of b c) (rw (lt-ltb c (columns_of b) p) at (sym (field_values b c q) ∙ right (8 + c) (omega arith)))
+      let e : 8 + c - 8 ≡ c = omega arith in
+      let q : 8 + c < 24 = omega (arith, columns_range.1) in
+      in_range 1 32 (values_of b c) (rw (e, lt-ltb c (columns_of b) p) at (sym (field_values b (8 + c) (omega arith) q) ∙ right (8 + c) (omega arith)))
 
   module _ (s : ℕ) (used : s < sheets_of b) where
     there : s < 8
@@ -145,8 +145,9 @@ module _ (b : List ℕ) (h : RightHead b) where
     placed : (j : ℕ) → j < width_of b s → (leb (columns_of b) (column_of b s j) || not_rising b s j) ≡ false
     unfolding wrong_column
     placed j p =
-        let q : j < 4 = omega (arith, width_range.1) in
-        rw (lt-ltb j (width_of b s) p) at (sym (field_column b s there used j q) ∙ right (25 + 8 * s + j) (omega (arith, there)))
+        let e : 25 + 8 * s + j - (25 + 8 * s) ≡ j = omega arith in
+        let q : 25 + 8 * s + j < 29 + 8 * s = omega (arith, width_range.1) in
+        rw (e, lt-ltb j (width_of b s) p) at (sym (field_column b s there used (25 + 8 * s + j) (omega arith) q) ∙ right (25 + 8 * s + j) (omega (arith, there)))
 
     pub column_inside : (j : ℕ) → j < width_of b s → column_of b s j < columns_of b
     column_inside j p = leb-false (columns_of b) (column_of b s j) (or_false_l _ _ (placed j p))

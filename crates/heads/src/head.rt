@@ -21,6 +21,7 @@ pub struct Head<'a> {
 
 // ---- the fields
 
+#[tactic(auto, unfolding(crate::specs::Heads::width_of, crate::specs::Heads::forbids_of))]
 impl<'a> Head<'a> {
     pub fn of(bytes: &'a [u8]) -> Head<'a>
         requires { 512 ≤ length bytes.now }
@@ -86,6 +87,7 @@ impl<'a> Head<'a> {
 
 // ---- what is wrong in a field: each function has the name of its definition in specs/Heads.antt, where the paper's sentence stands
 
+#[tactic(auto, unfolding(crate::specs::Heads::wrong_letters, crate::specs::Heads::wrong_columns, crate::specs::Heads::wrong_sheets, crate::specs::Heads::wrong_values, crate::specs::Heads::wrong_width, crate::specs::Heads::not_rising, crate::specs::Heads::wrong_column, crate::specs::Heads::wrong_rows))]
 impl Head<'_> {
     fn wrong_letters(&self) -> bool
         ensures { result ≡ wrong_letters self.now.bytes.now }
@@ -180,7 +182,7 @@ impl Head<'_> {
         ensures { FirstOf (wrong_field self.now.bytes.now) (25 + 8 * s) (29 + 8 * s) result }
     {
         let begin = 25 + 8 * s;
-        (begin..begin + 4).find(|i| self.wrong_column(s, *i - begin))
+        (begin..29 + 8 * s).find(|i| self.wrong_column(s, *i - begin))
     }
 
     // The entry of sheet s, one of the S.

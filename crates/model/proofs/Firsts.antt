@@ -5,7 +5,15 @@ use mathlib.Core.Logic.{◌⊎◌, inl, inr}
 use Prim.Native.Nat.{ℕ, ◌+◌, ◌*◌, ◌/◌, ◌%◌, ◌≤◌, ◌<◌}
 use native.Mathlib.Nat.{le_refl}
 use native.Mathlib.Omega.{arith}
-use Rattle.std.specs.Prelude.{None, Option, Some}
+use denote.Param.Members.{Mut}
+use denote.Ref.{Bor}
+use Rattle.std.proofs.lemmas.Iterator.{first_from_Range}
+use Rattle.std.specs.Fn.{CalledAt}
+use Rattle.std.specs.Iterator.{YieldsThen}
+use Rattle.std.specs.List.{FoldsTo}
+use Rattle.std.specs.Prelude.{None, Option, Some, MatchOption, ⊤, List}
+use Rattle.std.specs.declared.ops.Range.{Range}
+use Rattle.std.proofs.iter.Yields.{nat_range_steps}
 use Rattle.model.specs.Tests.{Finds, FirstIn, FirstOf, NoneIn, any_below, lowest}
 use Rattle.model.proofs.Tests.{any_below_i, any_below_none, below, either, lowest_before, lowest_e, lowest_le, or_e, or_false_l, or_false_r}
 
@@ -141,6 +149,21 @@ first_in_same h x = record {
 pub first_of_same : {f g : ℕ → Bool} {a e : ℕ} (o : Option ℕ) → ((i : ℕ) → a ≤ i → i < e → f i ≡ g i) → FirstOf f a e o → FirstOf g a e o
 first_of_same None h x = record { at = λ i p q. sym (h i p q) ∙ x.at i p q }
 first_of_same (Some r) h x = (x.0, first_in_same h x.1)
+
+-- what `find` gives over a range, where the closure computes the test
+pub first_of_range : {F : Type 0} {g : Mut F (Bor ℕ × Unit {0}) Bool} (f : ℕ → Bool) (s u : Range ℕ) (p : F) (r : Option ℕ)
+    → (xs : List ℕ) × (j : F) × YieldsThen nat_range_steps s xs r u × FoldsTo (λ p x q. CalledAt g p x false q) p xs j × MatchOption r ⊤ (λ x. (h : F) × CalledAt g j x true h)
+    → ((x : ℕ) (b : Bool) (q : F) → CalledAt g p x b q → (q ≡ p) × (b ≡ f x)) → FirstOf f s.start s.end r
+first_of_range f s u p r ran called =
+    go r
+    (first_from_Range s u p r (λ x. f x ≡ true) (λ x. f x ≡ false) ran (λ x q k. sym (called x true q k).1)
+    (λ x q k. let e = called x false q k in (e.0, sym e.1)))
+  where
+    go : (o : Option ℕ)
+        → MatchOption o ((k : ℕ) → s.start ≤ k → k < s.end → f k ≡ false) (λ i. (s.start ≤ i) × (i < s.end) × (f i ≡ true) × ((k : ℕ) → s.start ≤ k → k < i → f k ≡ false))
+        → FirstOf f s.start s.end o
+    go None h = record { at = h }
+    go (Some i) h = first_of_found h.0 h.1 (record { at = h.3 }) h.2
 
 pub finds_same : {f g : ℕ → Bool} {a e : ℕ} {t : Bool} → ((i : ℕ) → a ≤ i → i < e → f i ≡ g i) → Finds f a e t → Finds g a e t
 finds_same h x = record {

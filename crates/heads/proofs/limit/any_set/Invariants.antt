@@ -1,10 +1,7 @@
-use Rattle.std.proofs.Common.{◌-◌, ◌≤◌, not, eqb}
+use Rattle.std.proofs.Common.{not, eqb}
 use Rattle.model.specs.Tests.{Finds}
 use Rattle.heads.specs.Limits.{set_at}
 use Rattle.heads.proofs.limit.any_set.Given as goal
 
 abbrev pub invariant-loop-i : goal.invariant-loop-i
-invariant-loop-i l = (l.a ≤ l.i) × (l.i ≤ l.e) × Finds (set_at l.b) l.a l.i (not (eqb l.x 0))
-
-abbrev pub decreases-loop-i : goal.decreases-loop-i
-decreases-loop-i l = l.e - l.i
+invariant-loop-i l = Finds (set_at l.b) l.a l.i (not (eqb l.x 0))

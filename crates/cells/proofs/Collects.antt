@@ -2,15 +2,15 @@
 -- one row
 use mathlib.Core.Path.{◌∙◌, ◌≡◌, ap, refl, sym}
 use mathlib.Core.Bool.{Bool, ◌&&◌, ◌||◌, false, false≢true, not, or-false, true}
-use mathlib.Core.Logic.{◌⊎◌, inl, inr, ⊎_elim}
-use mathlib.Core.List.{List, [], ◌∷◌}
-use Prim.Native.Nat.{◌%◌, ◌+◌, ◌-◌, ◌<◌, ◌^◌, ◌≤◌, suc, zero, ℕ}
+use mathlib.Core.Logic.{◌⊎◌, inl, inr}
+use mathlib.Core.List.{List}
+use Prim.Native.Nat.{◌%◌, ◌+◌, ◌-◌, ◌<◌, ◌^◌, ◌≤◌, ℕ}
 use native.Mathlib.Omega.{arith}
 use lib.Arith.{lt_of_le-ne}
 use lib.Bits.{bit_or, or_lt}
 use lib.Count.{trailing_le, count_trailing_zeros}
 use lib.Dec.{eqb, ltb}
-use lib.ListN.{get_or, length, length-set, set}
+use lib.ListN.{get_or, length-set, set}
 use lib.Seq.{get_or-set_other, get_or-set_same}
 use borrow.Author.Tests.{eq-eqb, eqb-false, eqb-true, le-ltb, lt-ltb, ne_eqb, not-false}
 use Rattle.model.specs.Masks.{Cleared, bit}
@@ -18,9 +18,9 @@ use Rattle.model.proofs.Masks.{bit_of_zero, bit-or, bit_pow, bit_pow_only, lowes
 use Rattle.model.proofs.Tests.{and_true, below, either, or_e, or_l, or_r}
 use Rattle.fields.specs.Bytes.{byte_at}
 use Rattle.counters.specs.Counters.{PastRows}
-use Rattle.cells.specs.Cells.{GatheredOf, Joined, RunOf, SmallSets, four_of}
+use Rattle.cells.specs.Cells.{GatheredOf, RunOf, SmallSets}
 use Rattle.counters.proofs.Ones.{complement}
-use Rattle.cells.proofs.Walks.{Part, four_all, part_cleared, split}
+use Rattle.cells.proofs.Walks.{Part, part_cleared, split}
 
 one_row : (cell : ℕ → ℕ → ℕ) (t : ℕ) {g h : List ℕ} → ((j : ℕ) → j < 4 → get_or h j 0 ≡ bit_or (get_or g j 0) (2 ^ cell t j)) → GatheredOf cell (λ k. eqb k t) g h
 one_row cell t {g} {h} e = record {
@@ -77,19 +77,6 @@ module _ (cell : ℕ → ℕ → ℕ) {f : List ℕ} where
       go j v (inl p) = inl p
       go j v (inr (k, p, q)) = inr (k, sym (e k) ∙ p, q)
 
-  pub of_cells : (cell' : ℕ → ℕ → ℕ) {passes : ℕ → Bool} {g : List ℕ} → ((k j : ℕ) → passes k ≡ true → cell k j ≡ cell' k j)
-      → GatheredOf cell passes f g → GatheredOf cell' passes f g
-  of_cells cell' {passes} {g} e h = record {
-    old = h.old;
-    new = λ j k l p. rw (← e k j p) (h.new j k l p);
-    sound = λ j v l p. go j v (h.sound j v l p);
-  }
-    where
-      go : (j v : ℕ) → (bit v (get_or f j 0) ≡ true) ⊎ ((k : ℕ) × (passes k ≡ true) × (cell k j ≡ v))
-          → (bit v (get_or f j 0) ≡ true) ⊎ ((k : ℕ) × (passes k ≡ true) × (cell' k j ≡ v))
-      go j v (inl p) = inl p
-      go j v (inr (k, p, q)) = inr (k, p, sym (e k j p) ∙ q)
-
   -- one part of the rows, and then the other
   pub of_join : {passes more all : ℕ → Bool} {g h : List ℕ} → ((k : ℕ) → all k ≡ (passes k || more k))
       → GatheredOf cell passes f g → GatheredOf cell more g h → GatheredOf cell all f h
@@ -117,55 +104,6 @@ module _ (cell : ℕ → ℕ → ℕ) {f : List ℕ} where
   pub of_row : {passes all : ℕ → Bool} (t : ℕ) {g h : List ℕ} → ((k : ℕ) → all k ≡ (passes k || eqb k t))
       → GatheredOf cell passes f g → ((j : ℕ) → j < 4 → get_or h j 0 ≡ bit_or (get_or g j 0) (2 ^ cell t j)) → GatheredOf cell all f h
   of_row t e p q = of_join e p (one_row cell t q)
-
--- what was gathered from nothing, added to sets
-pub of_added : {cell : ℕ → ℕ → ℕ} {passes : ℕ → Bool} {f g h : List ℕ} → GatheredOf cell passes (four_of 0 0 0 0) g → Joined f g h → GatheredOf cell passes f h
-of_added {cell} {passes} {f} {g} {h} p q =
-    record {
-      old = λ j v l e. into j v l (or_l (bit v (get_or f j 0)) (bit v (get_or g j 0)) e);
-      new = λ j k l e. into j (cell k j) l (or_r (bit (cell k j) (get_or f j 0)) (bit (cell k j) (get_or g j 0)) (p.new j k l e));
-      sound = λ j v l e. go j v l (or_e (bit v (get_or f j 0)) (bit v (get_or g j 0)) (sym (bit-or v (get_or f j 0) (get_or g j 0)) ∙ ap (bit v) (sym (q.at j l)) ∙ e));
-    }
-  where
-    into : (j v : ℕ) → j < 4 → (bit v (get_or f j 0) || bit v (get_or g j 0)) ≡ true → bit v (get_or h j 0) ≡ true
-    into j v l e = ap (bit v) (q.at j l) ∙ bit-or v (get_or f j 0) (get_or g j 0) ∙ e
-
-    nothing : (j v : ℕ) → j < 4 → bit v (get_or (four_of 0 0 0 0) j 0) ≡ true → ⊥
-    nothing j v l e =
-        false≢true (sym (four_all (λ j. bit v (get_or (four_of 0 0 0 0) j 0) ≡ false) (bit_of_zero v) (bit_of_zero v) (bit_of_zero v) (bit_of_zero v) j l) ∙ e)
-
-    go : (j v : ℕ) → j < 4 → (bit v (get_or f j 0) ≡ true) ⊎ (bit v (get_or g j 0) ≡ true)
-        → (bit v (get_or f j 0) ≡ true) ⊎ ((k : ℕ) × (passes k ≡ true) × (cell k j ≡ v))
-    go j v l (inl e) = inl e
-    go j v l (inr e) = ⊎_elim (λ z. absurd (nothing j v l z)) (λ r. inr r) (p.sound j v l e)
-
--- the code's sets, written place by place
-abbrev pub added_to : List ℕ → ℕ → ℕ → ℕ → ℕ → List ℕ
-added_to f g0 g1 g2 g3 =
-    let p = set f 0 (bit_or (get_or f 0 0) g0) in
-    let q = set p 1 (bit_or (get_or p 1 0) g1) in
-    let r = set q 2 (bit_or (get_or q 2 0) g2) in
-    set r 3 (bit_or (get_or r 3 0) g3)
-
-pub sets_joined : (f : List ℕ) (g0 g1 g2 g3 : ℕ) → SmallSets f → ((g0 < 2 ^ 32) × (g1 < 2 ^ 32) × (g2 < 2 ^ 32) × (g3 < 2 ^ 32))
-    → Joined f (four_of g0 g1 g2 g3) (added_to f g0 g1 g2 g3)
-sets_joined [] g0 g1 g2 g3 s l = absurd (omega (arith, s.size))
-sets_joined (w ∷ []) g0 g1 g2 g3 s l = absurd (omega (arith, s.size))
-sets_joined (w ∷ x ∷ []) g0 g1 g2 g3 s l = absurd (omega (arith, s.size))
-sets_joined (w ∷ x ∷ y ∷ []) g0 g1 g2 g3 s l = absurd (omega (arith, s.size))
-sets_joined (w ∷ x ∷ y ∷ z ∷ (u ∷ f)) g0 g1 g2 g3 s l = absurd (omega (arith, s.size))
-sets_joined (w ∷ x ∷ y ∷ z ∷ []) g0 g1 g2 g3 s l =
-    record {
-      small = record { size = refl; fits = few };
-      at = four_all (λ j. get_or (four_of (bit_or w g0) (bit_or x g1) (bit_or y g2) (bit_or z g3)) j 0 ≡ bit_or (get_or (four_of w x y z) j 0) (get_or (four_of g0 g1 g2 g3) j 0)) refl refl refl refl;
-    }
-  where
-    few : (j : ℕ) → get_or (four_of (bit_or w g0) (bit_or x g1) (bit_or y g2) (bit_or z g3)) j 0 < 2 ^ 32
-    few zero = or_lt 32 w g0 (s.fits 0) l.0
-    few (suc zero) = or_lt 32 x g1 (s.fits 1) l.1
-    few (suc (suc zero)) = or_lt 32 y g2 (s.fits 2) l.2
-    few (suc (suc (suc zero))) = or_lt 32 z g3 (s.fits 3) l.3
-    few (suc (suc (suc (suc j)))) = omega arith
 
 -- the rows of the word that are no longer left
 unfoldable pub passed : ℕ → ℕ → ℕ → Bool

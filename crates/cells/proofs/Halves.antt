@@ -1,6 +1,6 @@
 -- Laws of pass 1 over rows that stand one after the other: of 64 places as two halves of 32, of a row read as one number, and of one row more. Assumes nothing.
 use mathlib.Core.Path.{◌∙◌, ◌≡◌, ap, refl, sym}
-use mathlib.Core.Bool.{Bool, ◌&&◌, ◌||◌, cond, false, false≢true, or-false, true}
+use mathlib.Core.Bool.{Bool, ◌&&◌, ◌||◌, cond, false, or-false, true}
 use mathlib.Core.Logic.{◌⊎◌, inl, inr}
 use mathlib.Core.List.{List}
 use Prim.Native.Nat.{◌%◌, ◌*◌, ◌+◌, ◌-◌, ◌/◌, ◌<◌, ◌^◌, ◌≤◌, suc, zero, ℕ}
@@ -9,11 +9,11 @@ use native.Mathlib.Omega.{arith}
 use lib.Bits.{and_le_l, bit_and, bit_or}
 use lib.Dec.{eqb, ltb}
 use lib.ListN.{get_or}
-use borrow.Author.Tests.{eq-eqb, le-ltb, lt-ltb}
+use borrow.Author.Tests.{le-ltb, lt-ltb}
 use Rattle.model.specs.Masks.{bit}
 use Rattle.model.specs.Tests.{all_below}
 use Rattle.model.proofs.Masks.{bit-and, bit_of_zero, bit-or, bit_pow, bit_pow_only, bit_pow_other, bit_suc, bit_zero, some_bit}
-use Rattle.model.proofs.Tests.{all_below_last, all_below_same, and_l, and_r, and_true, below, either, or_r, positive}
+use Rattle.model.proofs.Tests.{all_below_last, all_below_same, and_l, and_r, and_true, below, or_r, positive}
 use Rattle.fields.specs.Bytes.{byte_at, word_at}
 use Rattle.counters.specs.Counters.{cell_place}
 use Rattle.cells.specs.Cells.{KeptBy, KeptRun, cell_at, row_inside}

@@ -86,11 +86,6 @@ pub record SmallSets (f : List ℕ) : Type 0 where
   pub size : length f ≡ 4
   pub fits : (j : ℕ) → get_or f j 0 < 2 ^ 32
 
--- the sets h are the sets f and g together
-pub record Joined (f g h : List ℕ) : Type 0 where
-  pub small : SmallSets h
-  pub at : (j : ℕ) → j < 4 → get_or h j 0 ≡ bit_or (get_or f j 0) (get_or g j 0)
-
 -- the four bytes of a row are there
 abbrev pub RowThere : List ℕ → ℕ → Type 0
 RowThere b at = at + 3 < length b

@@ -8,7 +8,7 @@ ghost use Rattle.model.specs.Tests.{all_below};
 ghost use Rattle.fields.specs.Bytes.{byte_at};
 ghost use Rattle.counters.specs.Counters.{near_place};
 ghost use Rattle.counters.specs.Steps.{any_block, same_block};
-ghost use Rattle.cells.specs.Cells.{NearRows, Stretch, Readable, WithAny, Kept, KeptAny, KeptBy, KeptInside, KeptRun, four_of, RowAdded, RowThere, RunOf, Gathered, GatheredRun, SmallSets, Joined};
+ghost use Rattle.cells.specs.Cells.{NearRows, Stretch, Readable, WithAny, Kept, KeptAny, KeptBy, KeptInside, KeptRun, RowAdded, RowThere, RunOf, Gathered, GatheredRun, SmallSets};
 
 use crate::bits::*;
 use counters::counter::*;
@@ -209,8 +209,8 @@ fn gathered_run(book: &[u8], p: Counters, n: usize, seen: &mut [u32; 4])
     ensures { GatheredRun book.now p.begin (64 * p.word) n seen.old seen.new × SmallSets seen.new }
 {
     let mut sets = *seen;
-    for k in 0..n {
-        add_row(book, p.at_near(k).at, &mut sets);
+    for i in 0..n {
+        add_row(book, p.at_near(i).at, &mut sets);
     }
     *seen = sets;
 }

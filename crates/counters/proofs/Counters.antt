@@ -2,7 +2,7 @@
 use mathlib.Core.Path.{◌∙◌, ◌≡◌, ap, refl}
 use mathlib.Core.Bool.{Bool, ◌&&◌, false, not}
 use mathlib.Core.Logic.{◌⊎◌, inl, inr}
-use Prim.Native.Nat.{◌%◌, ◌*◌, ◌+◌, ◌-◌, ◌/◌, ◌<◌, ◌^◌, ◌≤◌, ℕ}
+use Prim.Native.Nat.{◌-◌, ◌/◌, ◌<◌, ◌^◌, ◌≤◌, ℕ}
 use native.Mathlib.Nat.{div-le_self, lt_of_le_of_lt}
 use native.Mathlib.Omega.{arith}
 use lib.Bits.{bit_and}
@@ -10,7 +10,7 @@ use lib.Dec.{ltb}
 use Rattle.model.specs.Masks.{bit}
 use Rattle.model.proofs.Masks.{bit-and, bit_high, ones64}
 use Rattle.model.proofs.Tests.{below}
-use Rattle.counters.specs.Counters.{FirstRows, PastRows, cell_place}
+use Rattle.counters.specs.Counters.{FirstRows, PastRows}
 use Rattle.counters.proofs.Ones.{complement, ones_shifted}
 
 -- ---- the rows of a word below a number, and the others

@@ -25,7 +25,7 @@ use Rattle.model.proofs.Tests.{and_i, and_l, and_r, below, either, or_false_l, o
 use Rattle.book.specs.Decoding.{book_of}
 use Rattle.heads.specs.Heads.{column_of, forbids_of, width_of}
 use Rattle.cells.specs.Cells.{Covered, Gathered, IsCell, KeptAny, SmallSets, cell_at, four_of}
-use Rattle.words.specs.Sheets.{AtSheet, FindsSupported, NothingMissed, PlainSeen, RowsAre, SeenOr, SetSupport, SheetWords, ShortPlaces, Supported, Wanted, Widened, any_at, is_set, value_at}
+use Rattle.words.specs.Sheets.{AtSheet, FindsSupported, NothingMissed, PlainSeen, RowsAre, SetSupport, SheetWords, ShortPlaces, Supported, Wanted, Widened, any_at, is_set, value_at}
 use Rattle.words.proofs.Cuts.{row_word}
 use Rattle.words.proofs.Indexes.{past_limit, set_below}
 use Rattle.words.proofs.Places.{column_value, columns_size, formed, row_value, rows_few, sheet_forbids, sheet_in, valid_e, value_is, width_most}
@@ -195,13 +195,11 @@ module _ {b : List ℕ} {begin s : ℕ} (a : AtSheet b begin s) {W X N : List �
           let y : i ≡ p = omega arith in
           rw (y, ← ew, ← a.begins) (r.new j k m (rw (eword, ew, ← y) e))
 
-  pub supporting_covered : {p : ℕ} {x y : List ℕ} → Supporting b s p W X y → Covered x y → SeenOr b s W x y true
-  supporting_covered q c =
-      record { covers = λ t. record { sound = q.sound; complete = λ j v l e r. c.at j v l e }; plain = λ t. absurd (false≢true (sym t)) }
+  pub supporting_covered : {p : ℕ} {x y : List ℕ} → Supporting b s p W X y → Covered x y → Supported b s W x y
+  supporting_covered q c = record { sound = q.sound; complete = λ j v l e r. c.at j v l e }
 
-  pub supporting_all : {p : ℕ} {x y : List ℕ} → get_or N s 0 ≤ p → SmallSets y → Supporting b s p W X y → SeenOr b s W x y false
-  supporting_all {p} {x} {y} l z q =
-      record { covers = λ t. absurd (false≢true t); plain = λ t. record { small = z; sound = q.sound; cells = cells } }
+  pub supporting_all : {p : ℕ} {y : List ℕ} → get_or N s 0 ≤ p → SmallSets y → Supporting b s p W X y → PlainSeen b s W y
+  supporting_all {p} {y} l z q = record { small = z; sound = q.sound; cells = cells }
     where
       cells : (r j : ℕ) → r < 512 → j < 4 → is_set W s r ≡ true → bit (value_at b s r j % 32) (get_or y j 0) ≡ true
       cells r j m n e =

@@ -3,7 +3,7 @@ use borrow.Author.Rules.{rules}
 use Rattle.heads.specs.Heads.{sheets_of}
 use Rattle.engine.proofs.Worklists.{head_length}
 use Rattle.status.proofs.Counts.{mask_more, mask_none}
-use Rattle.status.proofs.Status.{few_sheets}
+use Rattle.status.proofs.Summaries.{few_sheets}
 use mathlib.Core.Path.{◌≡◌, sym}
 use Prim.Native.Nat.{◌<◌}
 use Rattle.status.specs.Status.{done_sheets}

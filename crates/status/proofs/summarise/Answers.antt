@@ -1,6 +1,6 @@
 use mathlib.Core.Path.{refl}
 use borrow.Author.Rules.{rules}
-use Rattle.status.proofs.Status.{failed_summary, is_open, open_summary}
+use Rattle.status.proofs.Summaries.{failed_summary, is_open, open_summary}
 use Rattle.status.proofs.summarise.Goals as goal
 
 pub returns-then-dom-eq0 : goal.returns-then-dom-eq0

@@ -331,18 +331,18 @@ module _ {b : List ℕ} {begin s : ℕ} (a : AtSheet b begin s) where
           ap not (ne_eqb (values_to b s W X j v (get_or N s 0)) (others_of x j) (λ z. omega (arith, q, c, o)))))
 
 -- ---- steps of the code
-ones_size : {x : List ℕ} → SmallSets x → (j : ℕ) → ones (get_or x j 0) ≡ size (get_or x j 0)
-ones_size {x} h j = sym (count_ones 32 (get_or x j 0) (h.fits j))
-
-pub others_made : {x : List ℕ} {a b c d : ℕ} → SmallSets x → a ≡ ones (get_or x 1 0) * ones (get_or x 2 0) * ones (get_or x 3 0)
-    → b ≡ ones (get_or x 0 0) * ones (get_or x 2 0) * ones (get_or x 3 0) → c ≡ ones (get_or x 0 0) * ones (get_or x 1 0) * ones (get_or x 3 0)
-    → d ≡ ones (get_or x 0 0) * ones (get_or x 1 0) * ones (get_or x 2 0) → Others x (a ∷ b ∷ c ∷ d ∷ [])
+pub others_made : {x : List ℕ} (z : List ℕ) {a b c d : ℕ} → SmallSets x → ((j : ℕ) → j < 4 → get_or z j 0 ≡ ones (get_or x j 0))
+    → a ≡ get_or z 1 0 * get_or z 2 0 * get_or z 3 0 → b ≡ get_or z 0 0 * get_or z 2 0 * get_or z 3 0
+    → c ≡ get_or z 0 0 * get_or z 1 0 * get_or z 3 0 → d ≡ get_or z 0 0 * get_or z 1 0 * get_or z 2 0 → Others x (a ∷ b ∷ c ∷ d ∷ [])
 unfolding others_of
-others_made {x} {a} {b} {c} {d} h ea eb ec ed =
+others_made {x} z {a} {b} {c} {d} h e ea eb ec ed =
     record {
       size = refl;
       at = λ j l.
           four_all (λ j. get_or (a ∷ b ∷ c ∷ d ∷ []) j 0 ≡ others_of x j)
-          (ea ∙ rw (ones_size h 1, ones_size h 2, ones_size h 3)) (eb ∙ rw (ones_size h 0, ones_size h 2, ones_size h 3))
-          (ec ∙ rw (ones_size h 0, ones_size h 1, ones_size h 3)) (ed ∙ rw (ones_size h 0, ones_size h 1, ones_size h 2)) j l;
+          (ea ∙ rw (same 1 (omega arith), same 2 (omega arith), same 3 (omega arith))) (eb ∙ rw (same 0 (omega arith), same 2 (omega arith), same 3 (omega arith)))
+          (ec ∙ rw (same 0 (omega arith), same 1 (omega arith), same 3 (omega arith))) (ed ∙ rw (same 0 (omega arith), same 1 (omega arith), same 2 (omega arith))) j l;
     }
+  where
+    same : (j : ℕ) → j < 4 → get_or z j 0 ≡ size (get_or x j 0)
+    same j l = e j l ∙ sym (count_ones 32 (get_or x j 0) (h.fits j))

@@ -24,10 +24,7 @@ fn times(a: u32, b: u32, c: u32) -> u32
 fn choices_of(x: &[u32; 4]) -> [u32; 4]
     ensures { Others x.now result }
 {
-    let a = u32::count_ones(x[0]);
-    let b = u32::count_ones(x[1]);
-    let c = u32::count_ones(x[2]);
-    let d = u32::count_ones(x[3]);
+    let [a, b, c, d] = x.map(|set| set.count_ones());
     [
         times(b, c, d),
         times(a, c, d),

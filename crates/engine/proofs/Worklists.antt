@@ -55,14 +55,13 @@ module _ (b : List ℕ) (acc : Accepted b) where
   pub rows_end : (s : ℕ) → s < sheets_of b → first_byte b s + 512 * blocks_of b s ≤ 16896
   rows_end s l = omega (arith, right_length b (accepted_right b acc).length_right, rows_there s l)
 
--- a loop over the columns, or the sheets, that the head h of the book counts
-pub one_column : {b h : List ℕ} {n c : ℕ} → Accepted b → h ≡ b → n ≡ columns_of h → c < n → (c < columns_of b) × (c < 16)
-one_column {b} {h} {n} {c} acc e f l =
-    let k : c < columns_of b = omega (arith, f, ap columns_of e) in (k, sixteen_columns b acc c k)
+-- how many columns, or sheets, the head h of the book counts: the end of a loop over them
+module _ {b h : List ℕ} {n : ℕ} (acc : Accepted b) (e : h ≡ b) where
+  pub columns_counted : n ≡ columns_of h → (n ≡ columns_of b) × (n ≤ 16)
+  columns_counted f = (f ∙ ap columns_of e, omega (arith, f, ap columns_of e, (columns_range b (accepted_right b acc).head).1))
 
-pub one_sheet : {b h : List ℕ} {n s : ℕ} → Accepted b → h ≡ b → n ≡ sheets_of h → s < n → (s < sheets_of b) × (s < 8)
-one_sheet {b} {h} {n} {s} acc e f l =
-    let k : s < sheets_of b = omega (arith, f, ap sheets_of e) in (k, eight_sheets b acc s k)
+  pub sheets_counted : n ≡ sheets_of h → (n ≡ sheets_of b) × (n ≤ 8)
+  sheets_counted f = (f ∙ ap sheets_of e, omega (arith, f, ap sheets_of e, sheets_most b (accepted_right b acc).head))
 
 -- another number than n is below n + 1 exactly when it is below n
 ltb_next : (f n : ℕ) → (f ≡ n → ⊥) → ltb f n ≡ ltb f (n + 1)

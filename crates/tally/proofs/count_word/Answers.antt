@@ -1,21 +1,7 @@
 use native.Mathlib.Omega.{arith}
-use borrow.Author.Rules.{rules}
-use Rattle.cells.proofs.Stretches.{far_stretch, first_near, first_part, near_part, near_stretch, part_readable, part_stretch, past_part}
-use Rattle.tally.proofs.Tallies.{counted_join, counted_most, counts_below}
+use Rattle.cells.proofs.Stretches.{far_stretch, part_readable, past_part}
+use Rattle.tally.proofs.Tallies.{counted_join, counted_most}
 use Rattle.tally.proofs.count_word.Goals as goal
-
-pub at_word-p-requires : goal.at_word-p-requires
-at_word-p-requires g c = let z = c.requires.2 in (c.requires.0, search (rules, z))
-
-pub count_set-requires : goal.count_set-requires
-count_set-requires g c = let p = c.at_word-p.ensures in
-    let f = c.first_rows.ensures in (
-      part_stretch (near_part (first_near f)) (near_stretch p.2 (rw p.1 c.requires.0) (rw (p.0, p.1) c.requires.2)),
-      rw (p.0, p.1) (part_readable (first_part f) c.requires.1),
-      counts_below (omega arith) c.requires.3,
-      c.requires.4,
-      c.requires.5,
-    )
 
 pub count_set-requires-2 : goal.count_set-requires-2
 count_set-requires-2 g c = let p = c.at_word-p.ensures in

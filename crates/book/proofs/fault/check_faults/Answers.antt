@@ -1,4 +1,4 @@
-use Rattle.std.proofs.Common.{ap, arith, rules, ◌∙◌, ◌≡◌}
+use Rattle.std.proofs.Common.{ap, rules, ◌∙◌, ◌≡◌}
 use Rattle.rows.specs.Rows.{first_fault}
 use Rattle.rows.proofs.Rows.{fault_none}
 use Rattle.book.specs.Refusals.{verdict_of}

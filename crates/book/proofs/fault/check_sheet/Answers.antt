@@ -1,4 +1,4 @@
-use Rattle.std.proofs.Common.{arith, ap, ◌∙◌, ◌+◌, ◌≤◌}
+use Rattle.std.proofs.Common.{arith, ap, ◌∙◌}
 use Rattle.model.proofs.Firsts.{none_any}
 use Rattle.model.proofs.Tests.{any_below_i}
 use Rattle.rows.specs.Rows.{wrong_sheet}

@@ -1,5 +1,4 @@
-use Rattle.std.proofs.Common.{arith, rules, ◌∙◌, ◌≡◌}
-use Rattle.model.proofs.Firsts.{none_more}
+use Rattle.std.proofs.Common.{rules, ◌∙◌, ◌≡◌}
 use Rattle.book.specs.Refusals.{verdict_of}
 use Rattle.book.specs.Verdicts.{order_verdict}
 use Rattle.book.proofs.Refusals.{fall_found, fall_none}

@@ -1,5 +1,4 @@
-use Rattle.std.proofs.Common.{arith, rules, sym, ap, ◌∙◌, ◌≡◌, ◌<◌}
-use Rattle.heads.specs.Heads.{sheets_of}
+use Rattle.std.proofs.Common.{arith, sym, ap, ◌∙◌}
 use Rattle.heads.proofs.Heads.{rows_most, sheets_most}
 use Rattle.rows.proofs.Rows.{blocks_few}
 use Rattle.book.proofs.Refusals.{fall_stands, sheet_falls, sheet_plain, sheet_rises}
@@ -11,12 +10,6 @@ forbids-requires c = omega (arith, c.requires, sheets_most _ c.args.book.now.rig
 
 pub returns-then-not-forbids-clause-right : goal.returns-then-not-forbids-clause-right
 returns-then-not-forbids-clause-right c = sheet_plain _ _ (sym (rw c.head.ensures at c.forbids.ensures) ∙ c.if-not-forbids.true)
-
-pub first_fall_in-requires : goal.first_fall_in-requires
-first_fall_in-requires c = let b = c.args.book.now in (
-  rw (c.of-sheet.ensures.0, c.of-sheet.ensures.1) (rows_most _ b.right _ c.requires),
-  rw (c.of-sheet.result.starts, c.of-sheet.ensures.0, c.of-sheet.ensures.1) (omega (arith, blocks_few _ b.length b.blocks _ c.requires)),
-)
 
 pub fall_at-requires : goal.fall_at-requires
 fall_at-requires c = let b = c.args.book.now in

@@ -38,7 +38,7 @@ fn cut<F: Fn(usize, u64) -> u64>(sheet: &Sheet<'_>, keep: F, rows: &mut Rows) ->
 {
     let mut any = false;
     for p in (0..rows.nonzero_words(sheet.number)).rev() {
-        any = any | cut_word(sheet, p, &keep, rows);
+        any |= cut_word(sheet, p, &keep, rows);
     }
     any
 }
@@ -73,7 +73,7 @@ pub fn cut_places(
 {
     let mut any = opening;
     for j in 0..sheet.width() {
-        any = any | cut_place(sheet, j, changed, dom, rows);
+        any |= cut_place(sheet, j, changed, dom, rows);
     }
     any
 }

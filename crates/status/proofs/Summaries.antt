@@ -51,9 +51,6 @@ filled_size x p h = let r = some_bit 32 x h p in some_count 32 (λ v. bit v x) r
 pub few_sheets : (b : List ℕ) → Accepted b → sheets_of b ≤ 8
 few_sheets b acc = sheets_most b (accepted_right b acc).head
 
-pub laid_sheets : {b begins scopes shorts : List ℕ} → LayoutOf b begins scopes shorts → SheetsLaid b begins shorts
-laid_sheets h = record { accepted = h.accepted; starts = h.starts; any = h.any }
-
 -- ---- a state that is not failed
 module _ {b : List ℕ} (acc : Accepted b) {D W X N : List ℕ} (o : OpenState b D W X N) where
   abbrev C : ℕ

@@ -1,8 +1,6 @@
-use Rattle.std.proofs.Common.{◌≡◌, ◌/◌, ◌%◌, ◌∙◌, sym, arith}
-use Rattle.model.proofs.Tests.{and_assoc}
-use Rattle.rows.specs.Bounds.{below_bounds}
+use Rattle.std.proofs.Common.{rules}
+use Rattle.rows.proofs.Words.{below_all}
 use Rattle.rows.proofs.row.Bounds.all_above.Goals as goal
 
 pub returns : goal.returns
-unfolding below_bounds
-returns c = let e : c.args.v / 16777216 % 256 ≡ c.args.v / 16777216 = omega arith in rw (c.to_le_bytes.ensures, e) (sym (and_assoc _ _ _ ∙ and_assoc _ _ _))
+returns c = let m = c.args.self in rw c.to_le_bytes.ensures (below_all m.w m.x m.y m.z c.args.v (search rules))

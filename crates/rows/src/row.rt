@@ -13,8 +13,9 @@
 //     row     3       255     0       0           two values, V = 4 and 7
 //     turned  4       0       0       0           one of 128 or more is over its bound; where none is, the sum is as above
 //     slack   128-5   128-8   128-1   128-1
-ghost use Rattle.std.specs.Prelude.{◌≡◌, ◌+◌, ◌-◌, ◌*◌, ◌/◌, ◌%◌, ◌^◌, ◌<◌, ◌≤◌, bit_or, nat_lt};
+ghost use Rattle.std.specs.Prelude.{◌≡◌, ℕ, ◌+◌, ◌-◌, ◌*◌, ◌/◌, ◌%◌, ◌^◌, ◌<◌, ◌≤◌, bit_or, nat_lt};
 ghost use Rattle.model.specs.Tests.{Finds, NoneIn, one_if};
+ghost use Rattle.fields.specs.Bytes.{byte_at};
 ghost use Rattle.heads.specs.Blocks.{RightLength, block_count, word};
 ghost use Rattle.heads.specs.Heads.{sheets_of, RightHead};
 ghost use Rattle.rows.specs.Rows.{any_places, blocks_of, first_block, blocks_needed, over_at};
@@ -37,7 +38,11 @@ pub fn first_block(h: &Head<'_>, s: usize) -> usize
     requires { s ≤ 8 }
     ensures { (result ≡ first_block h.now.bytes.now s) × (result < 65536) }
 {
-    1 + (0..s).map(|t| blocks_of(h, t)).sum::<usize>()
+    let mut n: usize = 1;
+    for t in 0..s {
+        n += blocks_of(h, t);
+    }
+    n
 }
 
 // The blocks that the head and the sheets need; there are at most eight sheets.
@@ -160,11 +165,17 @@ impl Bounds {
         ensures { result ≡ below_bounds self.w self.x self.y self.z v }
     {
         let [p, q, r, s] = v.to_le_bytes();
-        p < self.w && q < self.x && r < self.y && s < self.z
+        (p < self.w) & (q < self.x) & (r < self.y) & (s < self.z)
     }
 }
 
 // ---- rows over their bounds
+
+// That the numbers of a list are bytes: the prover knows it only of a list that is an argument itself. No code.
+fn are_bytes(bytes: &[u8])
+    ensures { (i : ℕ) → byte_at bytes.now i < 256 }
+{
+}
 
 // f of each row of a block, joined by `|`. The loop takes all 127 rows and uses each once, so that the compiler reads four of them at a time.
 fn joined<F: Fn(u32) -> u32>(b: &Block<'_>, f: F) -> u32
@@ -204,6 +215,7 @@ fn any_raised(b: &Block<'_>, k: u32) -> bool
 pub fn any_not_below(b: &Block<'_>, m: Bounds) -> bool
     ensures { Finds (over_bounds m.w m.x m.y m.z 0 b.now.bytes.now) 0 127 result }
 {
+    are_bytes(b.bytes);
     let v = joined_rows(b);
     if m.all_above(v) {
         return false;
@@ -245,6 +257,7 @@ pub fn any_over(b: &Block<'_>, m: Bounds) -> bool
     if m.k == 0 {
         return any_not_below(b, m);
     }
+    are_bytes(b.bytes);
     let o = m.turn();
     any_turned(b, o, m.slack() - o)
 }
@@ -254,12 +267,10 @@ pub fn rows_under(b: &Block<'_>, m: Bounds, n: usize) -> usize
     requires { n ≤ 127 }
     ensures { (result ≤ n) × NoneIn (over_bounds m.w m.x m.y m.z m.k b.now.bytes.now) 0 result }
 {
+    are_bytes(b.bytes);
     let o = m.turn();
     let slack = m.slack() - o;
-    for r in 0..n {
-        if any_high(turned_twice(word_at(b.bytes, 4 * r), o, slack)) {
-            return r;
-        }
-    }
-    n
+    (0..n)
+        .find(|r| any_high(turned_twice(word_at(b.bytes, 4 * *r), o, slack)))
+        .unwrap_or(n)
 }

@@ -1,5 +1,5 @@
 // The first fault of the rows, and its refusal: the first wrong block is looked at once more, row by row, and its wrong row byte by byte.
-ghost use Rattle.std.specs.Prelude.{◌≡◌, ◌+◌, ◌*◌, ◌<◌, ◌≤◌, IfErr, IfOk, false, true};
+ghost use Rattle.std.specs.Prelude.{◌≡◌, ◌+◌, ◌*◌, ◌<◌, ◌≤◌, IfErr, OnOk, false, true};
 ghost use Rattle.model.specs.Tests.{FirstOf};
 ghost use Rattle.heads.specs.Heads.{RightHead, sheets_of};
 ghost use Rattle.rows.specs.Rows.{blocks_of, clean, fault_at, fault_in_block, first_fault, is_value, fault_in_sheet, wrong_byte, wrong_sheet};
@@ -8,22 +8,11 @@ ghost use Rattle.book.specs.Verdicts.{row_verdict};
 
 use crate::refused::Refusal;
 use faults::doubt::*;
+use faults::sheet::*;
 use faults::wrong::*;
 use heads::block::*;
 use heads::head::*;
 use rows::row::*;
-
-// Sheet s of a book whose blocks are there.
-pub fn sheet_at<'a>(book: &Whole<'a>, s: usize) -> SheetRows<'a>
-    requires { s < sheets_of book.now.bytes.now }
-    ensures { (result.bytes.now ≡ book.now.bytes.now) × (result.s ≡ s) }
-{
-    SheetRows {
-        bytes: book.bytes,
-        s,
-        start: first_block(&book.head(), s),
-    }
-}
 
 // Whether byte j of row r of sheet s is a value.
 fn is_value(head: &Head<'_>, s: usize, r: usize, j: usize) -> bool
@@ -34,37 +23,37 @@ fn is_value(head: &Head<'_>, s: usize, r: usize, j: usize) -> bool
 }
 
 // The refusal for byte i of block q of a sheet, which is wrong.
-fn fault_at(sheet: &SheetRows<'_>, q: usize, i: usize) -> Refusal
-    requires { (sheet.now.s < 8) × (sheet.now.start + q ≤ 33) × (i ≤ 508) }
-    ensures { row_verdict sheet.now.bytes.now (fault_at sheet.now.bytes.now sheet.now.s q i) ≡ verdict_of result }
+fn fault_at(sheet: &SheetBlocks<'_>, q: usize, i: usize) -> Refusal
+    requires { (sheet.now.start + q ≤ 33) × (i ≤ 508) }
+    ensures { row_verdict sheet.now.book.now (fault_at sheet.now.book.now sheet.now.number q i) ≡ verdict_of result }
 {
     let place = (128 * (sheet.start + q) + i / 4) as u16;
-    if is_value(&Head::of(sheet.bytes), sheet.s, 127 * q + i / 4, i % 4) {
+    if is_value(&Head::of(sheet.book), sheet.number, 127 * q + i / 4, i % 4) {
         return Refusal::Value(place);
     }
     Refusal::Filler(place)
 }
 
 // The first wrong byte of block q of a sheet.
-fn first_in_block(sheet: &SheetRows<'_>, q: usize) -> Option<usize>
-    requires { RightHead sheet.now.bytes.now × (sheet.now.s < sheets_of sheet.now.bytes.now) × (q < blocks_of sheet.now.bytes.now sheet.now.s) }
-    ensures { FirstOf (wrong_byte sheet.now.bytes.now sheet.now.s q) 0 508 result }
+fn first_in_block(sheet: &SheetBlocks<'_>, q: usize) -> Option<usize>
+    requires { RightHead sheet.now.book.now × (sheet.now.number < sheets_of sheet.now.book.now) × (q < blocks_of sheet.now.book.now sheet.now.number) }
+    ensures { FirstOf (wrong_byte sheet.now.book.now sheet.now.number q) 0 508 result }
 {
-    let head = Head::of(sheet.bytes);
+    let head = Head::of(sheet.book);
     seek_wrong(
-        &Block::of(sheet.bytes, sheet.start + q),
-        bounds_of(&head, sheet.s),
-        used_rows(head.rows(sheet.s), q),
+        &Block::of(sheet.book, sheet.start + q),
+        bounds_of(&head, sheet.number),
+        used_rows(head.rows(sheet.number), q),
     )
 }
 
 // The refusal for the first fault of sheet s.
 fn check_sheet(book: &Whole<'_>, s: usize) -> Result<(), Refusal>
     requires { s < sheets_of book.now.bytes.now }
-    ensures right { IfOk result (λ _. wrong_sheet book.now.bytes.now s ≡ false) }
+    ensures right { OnOk result (wrong_sheet book.now.bytes.now s ≡ false) }
     ensures wrong { IfErr result (λ e. (wrong_sheet book.now.bytes.now s ≡ true) × (row_verdict book.now.bytes.now (fault_in_sheet book.now.bytes.now s) ≡ verdict_of e)) }
 {
-    let sheet = sheet_at(book, s);
+    let sheet = SheetBlocks::of(book, s);
     match first_in_sheet(&sheet) {
         None => Ok(()),
         Some(q) => {
@@ -76,7 +65,7 @@ fn check_sheet(book: &Whole<'_>, s: usize) -> Result<(), Refusal>
 
 // Refusal 5 or 6 for the first fault of the rows. A right book without 255 is done where no sheet is in doubt.
 pub fn check_faults(book: &Whole<'_>) -> Result<(), Refusal>
-    ensures right { IfOk result (λ _. first_fault book.now.bytes.now ≡ clean) }
+    ensures right { OnOk result (first_fault book.now.bytes.now ≡ clean) }
     ensures wrong { IfErr result (λ e. row_verdict book.now.bytes.now (first_fault book.now.bytes.now) ≡ verdict_of e) }
 {
     let Some(first) = first_doubt(book) else {

@@ -6,12 +6,13 @@
 
 ghost use Rattle.std.specs.Prelude.{◌≡◌, ◌+◌, ◌*◌, ◌%◌, ◌^◌, ◌-◌, ◌<◌, get_or, length};
 ghost use Rattle.fields.specs.Bytes.{byte_at};
-ghost use Rattle.counters.specs.Counters.{AtRow, near_place};
+ghost use Rattle.counters.specs.Counters.{near_place};
 ghost use Rattle.cells.specs.Cells.{Readable, Stretch};
 ghost use Rattle.tally.specs.Tallies.{Counted, Counts, Raised, RowBytes, RowCounted, places_of};
 
 use cells::bits::*;
 use counters::counter::*;
+use counters::step::*;
 
 // One more at entry i.
 fn raise(counts: &mut [u32; 128], i: usize)
@@ -39,29 +40,13 @@ fn count_row(book: &[u8], at: usize, k: usize, counts: &mut [u32; 128])
     raise(counts, 96 + row / 16777216 % 32);
 }
 
-// Rows of the first 60 that are set, one by one.
-fn count_near(book: &[u8], p: Counters, word: u64, k: usize, counts: &mut [u32; 128])
-    requires { Stretch book.now p.begin p.block p.row p.word p.bit p.at word × Readable book.now p.begin (64 * p.word) word × Counts 512 counts.old }
+// The rows that are set, one by one.
+fn count_set<S: Step>(book: &[u8], p: Counters, word: u64, k: usize, counts: &mut [u32; 128])
+    requires { Stretch S.may book.now p word × Readable book.now p.begin (64 * p.word) word × Counts 512 counts.old }
     ensures { Counted k book.now p.begin (64 * p.word) word counts.old counts.new }
 {
-    let mut left = word;
-    while left != 0 {
-        let i = lowest(left);
-        count_row(book, at_near(p, i as usize).at, k, counts);
-        left = without_lowest(left);
-    }
-}
-
-// Rows anywhere in the word.
-fn count_far(book: &[u8], p: Counters, word: u64, k: usize, counts: &mut [u32; 128])
-    requires { AtRow (64 * p.word) p.begin p.block p.row p.word p.bit p.at × Readable book.now p.begin (64 * p.word) word × Counts 512 counts.old }
-    ensures { Counted k book.now p.begin (64 * p.word) word counts.old counts.new }
-{
-    let mut left = word;
-    while left != 0 {
-        let i = lowest(left);
-        count_row(book, at_bit(p, i as usize).at, k, counts);
-        left = without_lowest(left);
+    for i in Places::of(word) {
+        count_row(book, S::on(p, i as usize).at, k, counts);
     }
 }
 
@@ -70,7 +55,7 @@ pub fn counted(book: &[u8], begin: usize, w: usize, word: u64, k: usize, counts:
     requires { (w < 8) × Readable book.now begin (64 * w) word × (near_place begin w + 239 < length book.now) × Counts 448 counts.old }
     ensures { Counted k book.now begin (64 * w) word counts.old counts.new }
 {
-    let p = at_word(begin, w);
-    count_near(book, p, first_rows(word, 60), k, counts);
-    count_far(book, p, past_rows(word, 60), k, counts);
+    let p = Counters::at_word(begin, w);
+    count_set::<Near>(book, p, first_rows(word, 60), k, counts);
+    count_set::<Far>(book, p, past_rows(word, 60), k, counts);
 }

@@ -40,7 +40,7 @@ impl Rows {
         let mut rows: u32 = 0;
         for p in 0..n {
             let (_, word) = self.word(s, p);
-            rows = rows + word.count_ones();
+            rows += word.count_ones();
         }
         rows
     }

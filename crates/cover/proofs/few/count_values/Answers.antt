@@ -1,15 +1,9 @@
-use mathlib.Core.Path.{◌≡◌}
-use Prim.Native.Nat.{◌<◌}
-use native.Mathlib.Omega.{arith}
-use Rattle.cover.proofs.Fewer.{sizes_more, sizes_none}
+use mathlib.Core.Path.{◌∙◌, ◌≡◌, sym}
+use lib.Count.{ones}
+use lib.ListN.{get_or}
+use borrow.Author.Rules.{rules}
+use Rattle.model.proofs.Tallies.{count_ones}
 use Rattle.cover.proofs.few.count_values.Goals as goal
 
-pub loop-c-init : goal.loop-c-init
-loop-c-init c = (sizes_none _ c.requires.1, omega arith)
-
-pub loop-c-preserved : goal.loop-c-preserved
-loop-c-preserved c = let l : c.loop-c.c < 16 = omega (arith, c.loop-c-test.true) in
-    (sizes_more c.requires.0 l c.loop-c.invariant.0, omega (arith, c.loop-c-test.true))
-
 pub returns : goal.returns
-returns c = let e : c.loop-c.c ≡ 16 = omega (arith, c.loop-c-test.false, c.loop-c.invariant.1) in rw e at c.loop-c.invariant.0
+returns c = record { all = search rules; at = λ i l. let e : get_or c.map.result i 0 ≡ ones (get_or c.args.dom.now i 0) = search rules in e ∙ sym (count_ones 32 (get_or c.args.dom.now i 0) (c.fits-dom i)) }

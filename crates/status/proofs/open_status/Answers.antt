@@ -15,9 +15,9 @@ returns-then-any c =
     let found = any_from_yields_List many _ _ c.any.result c.any.ensures.ran (YieldsList-from_slice c.args.sizes.now (cc)) (λ x b q k. search (rules, tests)) in
     sym (rw (any_of_list many _ found c.told-sizes ∙ c.if-any.true) refl)
 
-pub returns : goal.returns
+pub returns-else-any : goal.returns-else-any
 unfolding open_status
-returns c =
+returns-else-any c =
     let many = λ (n : ℕ). ltb 1 n in
     let found = any_from_yields_List many _ _ c.any.result c.any.ensures.ran (YieldsList-from_slice c.args.sizes.now (cc)) (λ x b q k. search (rules, tests)) in
     sym (rw (any_of_list many _ found c.told-sizes ∙ c.if-any.false) refl)

@@ -10,7 +10,7 @@ use heads::head::Head;
 use rows::row::*;
 use words::sheet::*;
 
-// The book, and of each of its sheets the byte at which its rows begin and the places at which a row has 255.
+// The book, and of each of its sheets the byte at which its rows begin and the places at which a row has 255. Two arrays: `SheetsLaid` speaks of each.
 #[derive(Clone, Copy)]
 pub struct Sheets<'a> {
     pub book: &'a [u8],

@@ -17,10 +17,9 @@ use Rattle.std.proofs.lemmas.Option.{none-some}
 use Rattle.std.specs.List.{position, position_or_len}
 use Rattle.std.specs.Prelude.{None, Option, Some}
 use lib.Pow.{pow-lt, pow_pos}
-use lib.Count.{count_trailing_zeros}
 use Rattle.model.specs.Answers.{Outcome, found, limited, outcome_number, outcome_tries}
 use Rattle.model.specs.Books.{ConsistentStore, WellFormed, closure, column_count}
-use Rattle.model.specs.Masks.{bit, size, Cleared}
+use Rattle.model.specs.Masks.{bit, size}
 use Rattle.model.specs.Orders.{domains, narrowed, allowed}
 use Rattle.model.specs.Search.{Searched, after, following, open_column, or_else, searched, try_each, at_once, value_of}
 use Rattle.model.specs.Stores.{IsStore, all_filled, assign, empty_store, has, meet, values}
@@ -38,6 +37,7 @@ use Rattle.heads.specs.Heads.{columns_of}
 use Rattle.book.specs.Verdicts.{Accepted}
 use Rattle.book.proofs.Decoding.{accepted_right, right_formed}
 use Rattle.heads.proofs.Heads.{columns_range}
+use Rattle.cells.specs.Places.{Taken}
 use Rattle.cells.proofs.Walks.{split}
 use Rattle.engine.specs.Layouts.{LayoutOf}
 use Rattle.engine.specs.Propagation.{Fixpoint, Ready, closure_in, is_open, store_in}
@@ -307,11 +307,11 @@ module _ (b : List ℕ) (acc : Accepted b) {st : State} (h : FilledState b st) w
           (λ v i e. refl));
     }
 
-    pub picked_value : {made v rest count : ℕ} → Untried b st.dom c made rest count → bit v rest ≡ true → OpenValue b st.dom c v
-    picked_value u e = record { column = picked_inside; value = u.own _ e; more = g.passes l }
+    pub picked_value : {made v rest less count : ℕ} → Untried b st.dom c made rest count → Taken rest v less → OpenValue b st.dom c v
+    picked_value u t = record { column = picked_inside; value = u.own _ t.cleared.here; more = g.passes l }
 
     -- the lowest value v of those, and the rest of them
-    module _ {made v rest count : ℕ} (u : Untried b st.dom c made rest count) (q : v ≡ count_trailing_zeros 32 rest) (e : bit v rest ≡ true) where
+    module _ {made v rest less count : ℕ} (u : Untried b st.dom c made rest count) (taken : Taken rest v less) where
       abbrev next : Searched
       next = search_after b st.dom c v
 
@@ -324,8 +324,8 @@ module _ (b : List ℕ) (acc : Accepted b) {st : State} (h : FilledState b st) w
           u.left
           ∙ ap (following count)
           (try_each-lowest 32 (λ w. bit w rest) p (λ w. search_after b st.dom c w) v
-          (in_store (column_count (book_of b)) S (filled_store b acc h) c v (sym (same_has b acc h c v) ∙ u.own v e)).1 e
-          (λ w m. lowest_under 32 rest w (rw q at m)) gone kept)
+          (in_store (column_count (book_of b)) S (filled_store b acc h) c v (sym (same_has b acc h c v) ∙ u.own v taken.cleared.here)).1 taken.cleared.here
+          (λ w m. lowest_under 64 rest w (rw taken.lowest at m)) gone kept)
 
       abbrev but_v : ℕ → Bool
       but_v w = bit w rest && not (eqb w v)
@@ -365,9 +365,9 @@ module _ (b : List ℕ) (acc : Accepted b) {st : State} (h : FilledState b st) w
               }
 
       -- it has no solution: the others are left
-      pub untried_less : {n less all : ℕ} → Cleared rest less (count_trailing_zeros 32 rest) → Reaches b n (count + 1) (search_after b st.dom c v) (NotFound all)
+      pub untried_less : {n all : ℕ} → Reaches b n (count + 1) (search_after b st.dom c v) (NotFound all)
           → Untried b st.dom c made less all × (all ≤ n)
-      untried_less {n} {less} {all} k s = (record { own = λ w i. own w i (either (bit w rest)); left = left' }, given.2)
+      untried_less {n} {all} s = (record { own = λ w i. own w i (either (bit w rest)); left = left' }, given.2)
         where
           given : (next.solution ≡ none) × (all ≡ count + 1 + next.tries) × (all ≤ n)
           given = given_none s
@@ -375,12 +375,12 @@ module _ (b : List ℕ) (acc : Accepted b) {st : State} (h : FilledState b st) w
           own : (w : ℕ) → bit w less ≡ true → (bit w rest ≡ true) ⊎ (bit w rest ≡ false) → has st.dom c w ≡ true
           own w i (inl r) = u.own w r
           own w i (inr r) =
-              split w (count_trailing_zeros 32 rest) (λ t. absurd (false≢true (sym k.gone ∙ ap (λ (j : ℕ). bit j less) (sym t) ∙ i)))
-              (λ t. absurd (false≢true (sym r ∙ sym (k.rest w t) ∙ i)))
+              split w v (λ t. absurd (false≢true (sym taken.cleared.gone ∙ ap (λ (j : ℕ). bit j less) (sym t) ∙ i)))
+              (λ t. absurd (false≢true (sym r ∙ sym (taken.cleared.rest w t) ∙ i)))
 
           left' : following made (search_in b st.dom) ≡ following all (others (λ w. bit w less))
           left' =
-              v_first (λ w. bit w less) (rw q k.gone) (λ w t. k.rest w (λ j. t (j ∙ sym q)))
+              v_first (λ w. bit w less) taken.cleared.gone taken.cleared.rest
               ∙ ap (following count) (else_none (following 1 next) (others (λ w. bit w less)) given.0)
               ∙ ap (λ (j : ℕ). record { solution = (others (λ w. bit w less)).solution; tries = j }) (omega (arith, given.1))
 

@@ -1,6 +1,7 @@
 -- Two functions that call each other, one proof. The values left fall.
 use Prim.Native.Nat.{◌<◌}
-use Rattle.std.proofs.Common.{ap, refl, arith}
+use Rattle.std.proofs.Common.{◌∙◌, ap, refl, arith}
+use Rattle.cells.proofs.Walks.{all_left}
 use Rattle.engine.proofs.Worklists.{sixteen_columns}
 use Rattle.search.proofs.Searches.{found_assigned, none_reached, picked_found, picked_none, picked_stopped, picked_value, untried_all, untried_less, value_fewer, value_filled, value_found, value_none, value_ready, value_small}
 use Rattle.search.proofs.+pick_column_try_value.Goals as goal
@@ -8,41 +9,40 @@ use Rattle.search.proofs.+pick_column_try_value.Goals as goal
 pub pick_column-returns-in_default : goal.pick_column-returns-in_default
 pick_column-returns-in_default t c = found_assigned _ c.args.layout.now.all.accepted c.requires.0 c.in_default.ensures c.requires.1
 
-pub pick_column-loop-rest-init : goal.pick_column-loop-rest-init
-pick_column-loop-rest-init t c =
+pub pick_column-loop-v-init : goal.pick_column-loop-v-init
+pick_column-loop-v-init t c =
     let o = c.in-Some.ensures in
+    rw (all_left _ _ c.into_iter-v-iterator.ensures.into_iter_gives (c.of-v-items.ensures ∙ c.from.ensures))
     (untried_all _ c.args.layout.now.all.accepted c.requires.0 o.1 o.0 _, c.requires.1)
 
 pub pick_column-returns-then-tries-limit : goal.pick_column-returns-then-tries-limit
 pick_column-returns-then-tries-limit t c =
     let o = c.in-Some.ensures in
-    let v = c.lowest_value-v.ensures in
-    picked_stopped _ c.args.layout.now.all.accepted c.requires.0 o.1 o.0 c.loop-rest.invariant.0 v.0 v.1 c.if-tries-limit.true
+    picked_stopped _ c.args.layout.now.all.accepted c.requires.0 o.1 o.0 c.loop-v.invariant.0 c.in-Some-v.ensures.steps c.if-tries-limit.true
 
 pub pick_column-try_value-requires : goal.pick_column-try_value-requires
 pick_column-try_value-requires t c =
     let o = c.in-Some.ensures in
-    let u = c.loop-rest.invariant in
-    let value = picked_value _ c.args.layout.now.all.accepted c.requires.0 o.1 o.0 u.0 c.lowest_value-v.ensures.1 in
+    let u = c.loop-v.invariant in
+    let value = picked_value _ c.args.layout.now.all.accepted c.requires.0 o.1 o.0 u.0 c.in-Some-v.ensures.steps in
     (omega arith, (c.requires.0, value, omega (arith, u.1, c.if-tries-limit.false)))
 
 pub pick_column-returns-in_default-try_value : goal.pick_column-returns-in_default-try_value
 pick_column-returns-in_default-try_value t c =
     let o = c.in-Some.ensures in
-    let v = c.lowest_value-v.ensures in
-    picked_found _ c.args.layout.now.all.accepted c.requires.0 o.1 o.0 c.loop-rest.invariant.0 v.0 v.1 c.try_value.ensures c.in_default-try_value.not-NotFound
+    picked_found _ c.args.layout.now.all.accepted c.requires.0 o.1 o.0 c.loop-v.invariant.0 c.in-Some-v.ensures.steps c.try_value.ensures
+    c.in_default-try_value.not-NotFound
 
-pub pick_column-loop-rest-preserved : goal.pick_column-loop-rest-preserved
-pick_column-loop-rest-preserved t c =
+pub pick_column-loop-v-preserved : goal.pick_column-loop-v-preserved
+pick_column-loop-v-preserved t c =
     let o = c.in-Some.ensures in
-    let v = c.lowest_value-v.ensures in
-    untried_less _ c.args.layout.now.all.accepted c.requires.0 o.1 o.0 c.loop-rest.invariant.0 v.0 v.1 c.others-rest.ensures.0 c.in-NotFound.ensures
+    untried_less _ c.args.layout.now.all.accepted c.requires.0 o.1 o.0 c.loop-v.invariant.0 c.in-Some-v.ensures.steps c.in-NotFound.ensures
 
 pub pick_column-returns : goal.pick_column-returns
 pick_column-returns t c =
     let o = c.in-Some.ensures in
-    let u = c.loop-rest.invariant in
-    picked_none _ c.args.layout.now.all.accepted c.requires.0 o.1 o.0 u.0 c.loop-rest-test.false u.1
+    let u = c.loop-v.invariant in
+    picked_none _ c.args.layout.now.all.accepted c.requires.0 o.1 o.0 u.0 c.in-None.ensures.steps.0 u.1
 
 pub try_value-overflow_cast-column : goal.try_value-overflow_cast-column
 try_value-overflow_cast-column t c =

@@ -8,8 +8,5 @@ decreases-pick_column l = 2 * values_left l.layout.now.sheets.book.now l.state.n
 abbrev pub decreases-try_value : goal.decreases-try_value
 decreases-try_value l = 2 * values_left l.layout.now.sheets.book.now l.state.now.dom
 
-abbrev pub invariant-pick_column-loop-rest : goal.invariant-pick_column-loop-rest
-invariant-pick_column-loop-rest l = Untried l.layout.sheets.book.now l.state.dom l.c l.made l.rest l.tries × (l.tries ≤ l.limit)
-
-abbrev pub decreases-pick_column-loop-rest : goal.decreases-pick_column-loop-rest
-decreases-pick_column-loop-rest l = l.rest
+abbrev pub invariant-pick_column-loop-v : goal.invariant-pick_column-loop-v
+invariant-pick_column-loop-v l = Untried l.layout.sheets.book.now l.state.dom l.c l.made l.v-iterator.left l.tries × (l.tries ≤ l.limit)

@@ -32,6 +32,7 @@ pub fn first_fall_in(sheet: &SheetBlocks<'_>) -> Option<usize>
     let mut at = 512 * sheet.start;
     let mut i: usize = 0;
     let mut before: Option<u32> = None;
+    // Tried, slower: a `find` over the rows with the place of each from r / 127 and r % 127 took twice as long.
     for r in 0..sheet.rows() {
         let x = string_at(sheet.book, at);
         if before.is_some_and(|b| x <= b) {

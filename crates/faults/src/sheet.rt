@@ -21,6 +21,7 @@ pub struct SheetBlocks<'a> {
 
 impl<'a> SheetBlocks<'a> {
     // Sheet s of the book.
+    #[tactic(auto, using(heads::proofs::Heads::sheets_most, rows::proofs::Rows::blocks_there))]
     pub fn of(book: &Whole<'a>, s: usize) -> SheetBlocks<'a>
         requires { s < sheets_of book.now.bytes.now }
         ensures { (result.book.now ≡ book.now.bytes.now) × (result.number ≡ s) }

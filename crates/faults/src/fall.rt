@@ -2,7 +2,7 @@
 //
 //     row r     ..   125  126 | 127  128  ..          4 bytes further on, and 4 more where a block ends
 //     i         ..   125  126 |   0    1  ..          r % 127
-ghost use Rattle.std.specs.Prelude.{◌≡◌, ◌+◌, ◌/◌, ◌<◌, ◌≤◌, length};
+ghost use Rattle.std.specs.Prelude.{◌≡◌, ◌+◌, ◌/◌, ◌<◌, length};
 ghost use Rattle.model.specs.Tests.{FirstOf};
 ghost use Rattle.heads.specs.Heads.{rows_of};
 ghost use Rattle.rows.specs.Rows.{falls, string_at};

@@ -296,10 +296,10 @@ module _ (b : List ℕ) (s q : ℕ) (there : 512 * (first_block b s + q) + 512 �
   unfolding wrong_block
   block_same = sym (finds_any (any_below 508 seen_wrong) (finds_same (λ i l p. same_byte i p) (any_finds 508 seen_wrong)))
 
--- a block of a sheet has a used row
-pub row_of_block : (b : List ℕ) (s q : ℕ) → q < blocks_of b s → 127 * q < rows_of b s
+-- a block of a sheet has a used row, n the sheet's rows
+pub row_of_block : (b : List ℕ) (s q n : ℕ) → n ≡ rows_of b s → q < blocks_of b s → 127 * q < n
 unfolding blocks_of
-row_of_block b s q p = omega arith
+row_of_block b s q n e p = omega arith
 
 -- a look at block q by any bounds, from what the code holds: where its sheet begins, the block's bytes, the sheet's rows and the used ones of the block
 pub block_over : (b block : List ℕ) (s q start w x y z k n used : ℕ) (r : Bool)

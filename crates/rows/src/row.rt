@@ -13,8 +13,8 @@
 //     row     3       255     0       0           two values, V = 4 and 7
 //     turned  4       0       0       0           one of 128 or more is over its bound; where none is, the sum is as above
 //     slack   128-5   128-8   128-1   128-1
-ghost use Rattle.std.specs.Prelude.{◌≡◌, ℕ, ◌+◌, ◌-◌, ◌*◌, ◌/◌, ◌%◌, ◌^◌, ◌<◌, ◌≤◌, bit_or, nat_lt};
-ghost use Rattle.model.specs.Tests.{Finds, NoneIn, one_if};
+ghost use Rattle.std.specs.Prelude.{◌≡◌, ℕ, ◌+◌, ◌*◌, ◌%◌, ◌^◌, ◌<◌, ◌≤◌, bit_or, nat_lt};
+ghost use Rattle.model.specs.Tests.{Finds, NoneIn};
 ghost use Rattle.fields.specs.Bytes.{byte_at};
 ghost use Rattle.heads.specs.Blocks.{RightLength, block_count, word};
 ghost use Rattle.heads.specs.Heads.{sheets_of, RightHead};
@@ -26,6 +26,7 @@ use heads::block::Block;
 use heads::head::Head;
 
 // The blocks of sheet s.
+#[tactic(auto, unfolding(crate::specs::Rows::blocks_of))]
 pub fn blocks_of(h: &Head<'_>, s: usize) -> usize
     requires { s < 8 }
     ensures { (result ≡ blocks_of h.now.bytes.now s) × (result ≤ 517) }
@@ -34,6 +35,7 @@ pub fn blocks_of(h: &Head<'_>, s: usize) -> usize
 }
 
 // The block in which the rows of sheet s begin.
+#[tactic(auto, using(crate::proofs::Rows::first_block_zero, crate::proofs::Rows::first_block_more))]
 pub fn first_block(h: &Head<'_>, s: usize) -> usize
     requires { s ≤ 8 }
     ensures { (result ≡ first_block h.now.bytes.now s) × (result < 65536) }
@@ -46,6 +48,7 @@ pub fn first_block(h: &Head<'_>, s: usize) -> usize
 }
 
 // The blocks that the head and the sheets need; there are at most eight sheets.
+#[tactic(auto, unfolding(crate::specs::Rows::blocks_needed))]
 pub fn blocks_needed(h: &Head<'_>) -> usize
     requires { sheets_of h.now.bytes.now ≤ 8 }
     ensures { (result ≡ blocks_needed h.now.bytes.now) × (result < 65536) }
@@ -71,6 +74,7 @@ pub struct Whole<'a> {
 }
 
 impl<'a> Whole<'a> {
+    #[tactic(auto, using(crate::proofs::Rows::head_there))]
     pub fn head(&self) -> Head<'a>
         ensures { result.bytes.now ≡ self.now.bytes.now }
     {
@@ -93,6 +97,7 @@ pub struct Bounds {
 }
 
 // What byte j of a used row of sheet s, one of the S, has to be below.
+#[tactic(auto, using(heads::proofs::Heads::sheets_most), unfolding(crate::specs::Bounds::place_bound))]
 fn place_bound(h: &Head<'_>, s: usize, j: usize) -> u8
     requires { RightHead h.now.bytes.now × (s < sheets_of h.now.bytes.now) × (j < 4) }
     ensures { (result ≡ place_bound h.now.bytes.now s j) × (1 ≤ result) × (result ≤ 127) }
@@ -105,6 +110,7 @@ fn place_bound(h: &Head<'_>, s: usize, j: usize) -> u8
 }
 
 // At how many places of a row 255 passes: at all of the width, but at none in a forbidden sheet.
+#[tactic(auto, unfolding(crate::specs::Rows::any_places))]
 fn any_places(h: &Head<'_>, s: usize) -> usize
     requires { s < 8 }
     ensures { result ≡ any_places h.now.bytes.now s }
@@ -113,6 +119,7 @@ fn any_places(h: &Head<'_>, s: usize) -> usize
 }
 
 // The bounds of sheet s, one of the S.
+#[tactic(auto, using(heads::proofs::Heads::sheets_most))]
 pub fn bounds_of(h: &Head<'_>, s: usize) -> Bounds
     requires { RightHead h.now.bytes.now × (s < sheets_of h.now.bytes.now) }
     ensures { RowBounds h.now.bytes.now s result.w result.x result.y result.z result.k }
@@ -161,6 +168,7 @@ impl Bounds {
     }
 
     // Whether each byte of v is below its bound.
+    #[tactic(auto, using(crate::proofs::Words::below_all))]
     fn below_bounds(self, v: u32) -> bool
         ensures { result ≡ below_bounds self.w self.x self.y self.z v }
     {
@@ -177,6 +185,7 @@ fn are_bytes(bytes: &[u8])
 {}
 
 // f of each row of a block, joined by `|`. The loop takes all 127 rows and uses each once, so that the compiler reads four of them at a time.
+#[tactic(auto, using(crate::proofs::Words::joins_none, crate::proofs::Words::joins_more))]
 fn joined<F: Fn(u32) -> u32>(b: &Block<'_>, f: F) -> u32
     requires { F.IsAlwaysCallable f }
     ensures { Joins (λ r. F.post f (word b.now.bytes.now r)) 127 result }
@@ -196,6 +205,7 @@ pub fn joined_rows(b: &Block<'_>) -> u32
 }
 
 // Whether one of the four bytes of v is 128 or more.
+#[tactic(auto, using(crate::proofs::Words::high_mask))]
 fn any_high(v: u32) -> bool
     ensures { result ≡ any_high v }
 {

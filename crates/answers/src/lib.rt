@@ -31,25 +31,23 @@ fn put_domains(out: &mut [u8], shown: &[u32; 16])
     requires { length out.old ≡ 72 }
     ensures { out.new ≡ over out.old 8 (domain_bytes shown.now 16) }
 {
-    let mut c: usize = 0;
-    while c < 16 {
-        put_word(out, 8 + 4 * c, shown[c]);
-        c += 1;
+    for (c, mask) in shown.iter().enumerate() {
+        put_word(out, 8 + 4 * c, *mask);
     }
 }
 
 // The eight bytes before them.
-fn put_head(out: &mut [u8], refused: u8, status: u8, depth: u8, outcome: u8, done: u8, tries: u32)
+fn put_head(out: &mut [u8], a: Answer)
     requires { length out.old ≡ 72 }
-    ensures { out.new ≡ over out.old 0 (refused ∷ status ∷ depth ∷ outcome ∷ done ∷ 0 ∷ half_bytes tries) }
+    ensures { out.new ≡ over out.old 0 (a.refused ∷ a.status ∷ a.depth ∷ a.outcome ∷ a.done ∷ 0 ∷ half_bytes a.tries) }
 {
-    out[0] = refused;
-    out[1] = status;
-    out[2] = depth;
-    out[3] = outcome;
-    out[4] = done;
+    out[0] = a.refused;
+    out[1] = a.status;
+    out[2] = a.depth;
+    out[3] = a.outcome;
+    out[4] = a.done;
     out[5] = 0;
-    put_half(out, 6, tries);
+    put_half(out, 6, a.tries);
 }
 
 // A whole answer.
@@ -57,11 +55,8 @@ fn put_answer(out: &mut [u8], a: Answer)
     requires { length out.old ≡ 72 }
     ensures { out.new ≡ answer_bytes (answer_in a) }
 {
-    put_head(
-        out, a.refused, a.status, a.depth, a.outcome, a.done, a.tries,
-    );
-    let shown = a.shown;
-    put_domains(out, &shown);
+    put_head(out, a);
+    put_domains(out, &a.shown);
 }
 
 // Answer i of the space: its 72 bytes are lent to the writer. "A list has 0 to 256 orders", and answer 0 is the opening.

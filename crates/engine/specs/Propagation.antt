@@ -1,4 +1,4 @@
--- What propagation starts from, and what it comes to. D, W, X, N are the arrays of domains, words, index positions and counts of words that are not zero.
+-- What propagation starts from, and what it comes to: the state st gives way to the state t, and D are the domains of st.
 use Rattle.std.specs.Prelude.{◌≡◌, Bool, true, false, List, ℕ, ◌<◌, ltb, get_or}
 use Rattle.model.specs.Tests.{tab}
 use Rattle.model.specs.Masks.{bit, size}
@@ -9,6 +9,7 @@ use Rattle.heads.specs.Heads.{column_of, columns_of, sheets_of, width_of}
 use Rattle.book.specs.Decoding.{book_of}
 use Rattle.looks.specs.Looks.{SheetKnown}
 use Rattle.words.specs.Sheets.{Sized, IndexOf}
+use Rattle.engine.specs.declared.state.State.{State}
 
 -- the store in an array of sixteen domains: those of the book's columns
 abbrev pub store_in : List ℕ → List ℕ → List ℕ
@@ -24,28 +25,28 @@ closure_in b D = closure (book_of b) (store_in b D)
 
 -- no column of the book is empty, and the columns past its last are; each sheet is known but for the columns in `column`, and outside the opening
 -- each saw support for every value. A sheet that does not wait has none of these columns
-pub record Ready (b : List ℕ) (opening : Bool) (waiting column : ℕ) (D W X N : List ℕ) : Type 0 where
-  pub store : IsStore 16 D
-  pub sized : Sized W X N
-  pub filled : (c : ℕ) → c < columns_of b → (v : ℕ) × (has D c v ≡ true)
-  pub past : (c v : ℕ) → has D c v ≡ true → c < columns_of b
-  pub sheet : (s : ℕ) → s < sheets_of b → SheetKnown b s column opening D W X N
+pub record Ready (b : List ℕ) (opening : Bool) (waiting column : ℕ) (st : State) : Type 0 where
+  pub store : IsStore 16 st.dom
+  pub sized : Sized st.rows.valid st.rows.index st.rows.nonzero
+  pub filled : (c : ℕ) → c < columns_of b → (v : ℕ) × (has st.dom c v ≡ true)
+  pub past : (c v : ℕ) → has st.dom c v ≡ true → c < columns_of b
+  pub sheet : (s : ℕ) → s < sheets_of b → SheetKnown b s column opening st.dom st.rows.valid st.rows.index st.rows.nonzero
   pub quiet : (s : ℕ) → s < sheets_of b → bit s waiting ≡ false
       → (opening ≡ false) × ((j : ℕ) → j < width_of b s → bit (column_of b s j) column ≡ false)
   pub used : (s : ℕ) → bit s waiting ≡ true → s < sheets_of b
   pub small : waiting < 256
 
--- the arrays are the state of the closure of D, which has no empty column, or the closure is empty
-pub record Fixpoint (b D D' W' X' N' : List ℕ) (r : Bool) : Type 0 where
-  pub store : IsStore 16 D'
-  pub sized : Sized W' X' N'
-  pub state : r ≡ true → StateOf (book_of b) (closure_in b D) D' W' X' N'
-  pub filled : r ≡ true → (c : ℕ) → c < columns_of b → (v : ℕ) × (has D' c v ≡ true)
+-- the state t is that of the closure of D, which has no empty column, or the closure is empty
+pub record Fixpoint (b D : List ℕ) (t : State) (r : Bool) : Type 0 where
+  pub store : IsStore 16 t.dom
+  pub sized : Sized t.rows.valid t.rows.index t.rows.nonzero
+  pub state : r ≡ true → StateOf (book_of b) (closure_in b D) t.dom t.rows.valid t.rows.index t.rows.nonzero
+  pub filled : r ≡ true → (c : ℕ) → c < columns_of b → (v : ℕ) × (has t.dom c v ≡ true)
   pub failed : r ≡ false → closure_in b D ≡ empty_store (column_count (book_of b))
-  pub indexed : (s : ℕ) → s < sheets_of b → IndexOf s W' X' N'
+  pub indexed : (s : ℕ) → s < sheets_of b → IndexOf s t.rows.valid t.rows.index t.rows.nonzero
 
--- the arrays are the state of the closure of D
-pub record Propagated (b D D' W' X' N' : List ℕ) : Type 0 where
-  pub store : IsStore 16 D'
-  pub sized : Sized W' X' N'
-  pub state : StateOf (book_of b) (closure_in b D) D' W' X' N'
+-- the state t is that of the closure of D
+pub record Propagated (b D : List ℕ) (t : State) : Type 0 where
+  pub store : IsStore 16 t.dom
+  pub sized : Sized t.rows.valid t.rows.index t.rows.nonzero
+  pub state : StateOf (book_of b) (closure_in b D) t.dom t.rows.valid t.rows.index t.rows.nonzero

@@ -51,9 +51,10 @@ fn wrong_in(b: &Block<'_>, m: Bounds, n: usize, i: usize) -> bool
     ensures { result ≡ wrong_in m.w m.x m.y m.z m.k b.now.bytes.now (4 * n) i }
 {
     if i < 4 * n {
-        return m.over_bound(i % 4, b.bytes[i]);
+        m.over_bound(i % 4, b.bytes[i])
+    } else {
+        set_at(b.bytes, i)
     }
-    set_at(b.bytes, i)
 }
 
 // The first wrong byte of a block. Used rows are passed over as long as none of their bytes is wrong.

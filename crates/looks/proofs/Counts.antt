@@ -22,7 +22,7 @@ use Rattle.model.specs.Stores.{IsStore, has}
 use Rattle.model.specs.Tests.{count, sum, tab}
 use Rattle.model.proofs.Choices.{get_or-pick, length-pick}
 use Rattle.model.proofs.Counting.{Numbered, counted_from, counted_most, counted_to}
-use Rattle.model.proofs.Masks.{bit_high, bit_of_zero, bit-or, bit_pow, bit_pow_other}
+use Rattle.model.proofs.Masks.{bit_below, bit_high, bit_of_zero, bit-or, bit_pow, bit_pow_other}
 use Rattle.model.proofs.Settling.{supported_iff}
 use Rattle.model.proofs.Tallies.{count_le, count_more, count_ones, count_same}
 use Rattle.model.proofs.Tests.{and_i, and_l, and_r, and_true, below, either, get_or-tab, length-tab, or_r, same_test, zeros_at}
@@ -36,7 +36,7 @@ use Rattle.words.specs.Sheets.{AtSheet, FindsSupported, RowsAre, SheetWords, Siz
 use Rattle.words.proofs.Gathers.{at_position, word_row}
 use Rattle.words.proofs.Places.{column_value, columns_size, formed, row_value, rows_few, sheet_forbids, sheet_in, valid_e, width_most, forbidden_value}
 use Rattle.words.proofs.Indexes.{passes}
-use Rattle.looks.specs.Counts.{CountsTo, Fewer, NoneAbove, NotFull, NotFullTo, Others, SameSets, Unfilled, others_of, values_to}
+use Rattle.looks.specs.Counts.{CountsTo, Fewer, NoneAbove, NotFull, NotFullTo, Others, Unfilled, others_of, values_to}
 
 -- ---- the words in turn
 values_next : (b : List ℕ) (s : ℕ) (W X : List ℕ) (j v n : ℕ)
@@ -117,6 +117,10 @@ none_above {k} {b} {s} {n} {W = W} {X = X} z h e = record {
 pub record Keeping (C : List ℕ) (j choices d left keep : ℕ) : Type 0 where
   pub at : (v : ℕ) → bit v keep ≡ ((bit v d && not (bit v left)) && not (eqb (count_at C j v) choices))
 
+-- a value that is taken of those that are left
+pub value_left : {left rest d v : ℕ} → d < 2 ^ 32 → Part left d → Cleared left rest v → v < 32
+value_left {v = v} l p c = bit_below 32 _ v l (p.at v c.here)
+
 pub keeping_start : (C : List ℕ) (j choices d : ℕ) → Keeping C j choices d d 0
 keeping_start C j choices d = record { at = λ v. bit_of_zero v ∙ sym (ap (λ (t : Bool). t && not (eqb (count_at C j v) choices)) (never (bit v d))) }
   where
@@ -163,24 +167,14 @@ none_full {C} {j} {rows} {choices} {d} l f h m = record { at = λ v. go v (below
         rw e (sym (and_true (bit v d)))
     go v (inr k) = rw (bit_high 32 d v f k)
 
-pub places_none : (C o x : List ℕ) {y : List ℕ} → y ≡ replicate 4 0 → NotFullTo C o x 0 y
-places_none C o x e = record { size = ap length e ∙ length-replicate {A = ℕ} 4 0; at = λ j v l. absurd (omega arith) }
-
-pub places_more : {C o x y : List ℕ} {n r : ℕ} → n < 4 → NotFullTo C o x n y → NotFull C n (get_or o n 0) (get_or x n 0) r → NotFullTo C o x (n + 1) (set y n r)
-places_more {C} {o} {x} {y} {n} {r} l h g = record { size = length-set y n r ∙ h.size; at = λ j v m. go j v (below j n) m }
-  where
-    go : (j v : ℕ) → (j < n) ⊎ (n ≤ j) → j < n + 1 → bit v (get_or (set y n r) j 0) ≡ (bit v (get_or x j 0) && not (eqb (count_at C j v) (get_or o j 0)))
-    go j v (inl k) m = ap (bit v) (get_or-set_other y n j r 0 (λ e. omega arith)) ∙ h.at j v k
-    go j v (inr k) m = let e : j ≡ n = omega arith in rw e (ap (bit v) (get_or-set_same y n r 0 (omega (arith, h.size))) ∙ g.at v)
-
 -- ---- together
 -- values from 32 on are in no set
 past : {x : List ℕ} → SmallSets x → (j v : ℕ) → 32 ≤ v → (t : Bool) → (bit v (get_or x j 0) && t) ≡ false
 past {x} small j v l t = rw (bit_high 32 (get_or x j 0) v (small.fits j) l)
 
-module _ {b : List ℕ} {s n : ℕ} {W X N x y : List ℕ} (z : Sized W X N) (small : SmallSets x) where
-  pub unfilled_counted : (k : ℕ) {C o : List ℕ} → CountsTo k b s W X n C → Others x o → NotFullTo C o x 4 y → Unfilled b s W X n x (places_of k) y
-  unfilled_counted k {C} {o} c q h = record { at = λ j v l. h.at j v (four j l) ∙ go j v (four j l) l (below v 32) }
+module _ {b : List ℕ} {s n : ℕ} {W X N x : List ℕ} (z : Sized W X N) (small : SmallSets x) where
+  pub unfilled_counted : (k : ℕ) {C o y : List ℕ} → CountsTo k b s W X n C → Others x o → NotFullTo C o x 4 y → Unfilled b s W X n x (places_of k) y
+  unfilled_counted k {C} {o} {y} c q h = record { at = λ j v l. h.at j v (four j l) ∙ go j v (four j l) l (below v 32) }
     where
       four : (j : ℕ) → j < places_of k → j < 4
       four j l = omega (arith, (places_fit k).0)
@@ -190,8 +184,8 @@ module _ {b : List ℕ} {s n : ℕ} {W X N x y : List ℕ} (z : Sized W X N) (sm
       go j v l i (inl m) = rw (c.at j v l m, lt-ltb j (places_of k) i, q.at j l)
       go j v l i (inr m) = past small j v m (not (eqb (count_at C j v) (get_or o j 0))) ∙ sym (past small j v m (not (eqb (values_to b s W X j v n) (others_of x j))))
 
-  pub unfilled_few : {m : ℕ} {o : List ℕ} → Others x o → rows_to W X s n ≤ m → Fewer m o → SameSets x y → Unfilled b s W X n x 4 y
-  unfilled_few {m} {o} q l f e = record { at = λ j v k. ap (bit v) (e.at j k) ∙ go j v k }
+  pub unfilled_few : {m : ℕ} {o : List ℕ} → Others x o → rows_to W X s n ≤ m → Fewer m o → Unfilled b s W X n x 4 x
+  unfilled_few {m} {o} q l f = record { at = go }
     where
       go : (j v : ℕ) → j < 4 → bit v (get_or x j 0) ≡ (bit v (get_or x j 0) && not (eqb (values_to b s W X j v n) (others_of x j)))
       go j v k =
@@ -337,28 +331,18 @@ module _ {b : List ℕ} {begin s : ℕ} (a : AtSheet b begin s) where
           ap not (ne_eqb (values_to b s W X j v (get_or N s 0)) (others_of x j) (λ z. omega (arith, q, c, o)))))
 
 -- ---- steps of the code
-pub few_ones : {x : List ℕ} → SmallSets x → (j : ℕ) → ones (get_or x j 0) ≤ 32
-few_ones {x} h j = ones-le 32 (get_or x j 0) (h.fits j)
-
-ones_size : {x : List ℕ} → SmallSets x → (j : ℕ) → ones (get_or x j 0) ≡ size (get_or x j 0)
-ones_size {x} h j = sym (count_ones 32 (get_or x j 0) (h.fits j))
-
-pub others_made : {x o : List ℕ} {a b c d : ℕ} → SmallSets x → o ≡ replicate 4 0 → a ≡ ones (get_or x 1 0) * ones (get_or x 2 0) * ones (get_or x 3 0)
-    → b ≡ ones (get_or x 0 0) * ones (get_or x 2 0) * ones (get_or x 3 0) → c ≡ ones (get_or x 0 0) * ones (get_or x 1 0) * ones (get_or x 3 0)
-    → d ≡ ones (get_or x 0 0) * ones (get_or x 1 0) * ones (get_or x 2 0) → Others x (set (set (set (set o 0 a) 1 b) 2 c) 3 d)
+pub others_made : {x : List ℕ} (z : List ℕ) {a b c d : ℕ} → SmallSets x → ((j : ℕ) → j < 4 → get_or z j 0 ≡ ones (get_or x j 0))
+    → a ≡ get_or z 1 0 * get_or z 2 0 * get_or z 3 0 → b ≡ get_or z 0 0 * get_or z 2 0 * get_or z 3 0
+    → c ≡ get_or z 0 0 * get_or z 1 0 * get_or z 3 0 → d ≡ get_or z 0 0 * get_or z 1 0 * get_or z 2 0 → Others x (a ∷ b ∷ c ∷ d ∷ [])
 unfolding others_of
-others_made {x} {o} {a} {b} {c} {d} h e ea eb ec ed =
-    rw e
-    (record {
+others_made {x} z {a} {b} {c} {d} h e ea eb ec ed =
+    record {
       size = refl;
       at = λ j l.
           four_all (λ j. get_or (a ∷ b ∷ c ∷ d ∷ []) j 0 ≡ others_of x j)
-          (ea ∙ rw (ones_size h 1, ones_size h 2, ones_size h 3)) (eb ∙ rw (ones_size h 0, ones_size h 2, ones_size h 3))
-          (ec ∙ rw (ones_size h 0, ones_size h 1, ones_size h 3)) (ed ∙ rw (ones_size h 0, ones_size h 1, ones_size h 2)) j l;
-    })
-
-pub fewer_four : {n : ℕ} {o : List ℕ} → n < get_or o 0 0 → n < get_or o 1 0 → n < get_or o 2 0 → n < get_or o 3 0 → Fewer n o
-fewer_four {n} {o} a b c d = record { at = λ j l. four_all (λ j. n < get_or o j 0) a b c d j l }
-
-pub same_four : (x : List ℕ) {y : List ℕ} → y ≡ replicate 4 0 → SameSets x (set (set (set (set y 0 (get_or x 0 0)) 1 (get_or x 1 0)) 2 (get_or x 2 0)) 3 (get_or x 3 0))
-same_four x e = rw e (record { at = λ j l. four_all (λ j. get_or (get_or x 0 0 ∷ get_or x 1 0 ∷ get_or x 2 0 ∷ get_or x 3 0 ∷ []) j 0 ≡ get_or x j 0) refl refl refl refl j l })
+          (ea ∙ rw (same 1 (omega arith), same 2 (omega arith), same 3 (omega arith))) (eb ∙ rw (same 0 (omega arith), same 2 (omega arith), same 3 (omega arith)))
+          (ec ∙ rw (same 0 (omega arith), same 1 (omega arith), same 3 (omega arith))) (ed ∙ rw (same 0 (omega arith), same 1 (omega arith), same 2 (omega arith))) j l;
+    }
+  where
+    same : (j : ℕ) → j < 4 → get_or z j 0 ≡ size (get_or x j 0)
+    same j l = e j l ∙ sym (count_ones 32 (get_or x j 0) (h.fits j))

@@ -48,10 +48,6 @@ pub record NotFullTo (C o x : List ℕ) (n : ℕ) (y : List ℕ) : Type 0 where
   pub size : length y ≡ 4
   pub at : (j v : ℕ) → j < n → bit v (get_or y j 0) ≡ (bit v (get_or x j 0) && not (eqb (count_at C j v) (get_or o j 0)))
 
--- the sets y are the sets x
-pub record SameSets (x y : List ℕ) : Type 0 where
-  pub at : (j : ℕ) → j < 4 → get_or y j 0 ≡ get_or x j 0
-
 -- y are, at the places below k, the values of x that not as many rows have as there are choices for the other places
 pub record Unfilled (b : List ℕ) (s : ℕ) (W X : List ℕ) (n : ℕ) (x : List ℕ) (k : ℕ) (y : List ℕ) : Type 0 where
   pub at : (j v : ℕ) → j < k → bit v (get_or y j 0) ≡ (bit v (get_or x j 0) && not (eqb (values_to b s W X j v n) (others_of x j)))

@@ -1,7 +1,7 @@
 -- The look at a sheet, as the engine sees it: in the model's words, and of either kind of sheet.
 --
 -- Names: D are the domains, W, X, N the arrays of words, index positions and counts of words that are not zero; a second set has a '.
-use Rattle.std.specs.Prelude.{◌≡◌, Bool, false, true, ◌⊎◌, List, ◌<◌, ℕ, get_or}
+use Rattle.std.specs.Prelude.{◌≡◌, Bool, false, true, ◌⊎◌, List, Err, Ok, Result, ◌<◌, ℕ, get_or}
 use Rattle.model.specs.Books.{Settles, supported_in, sheet_at}
 use Rattle.model.specs.Masks.{bit}
 use Rattle.model.specs.States.{of_sheet, valid_word}
@@ -41,3 +41,8 @@ pub record Revised (b : List ℕ) (s : ℕ) (D W X N D' W' X' N' : List ℕ) (sa
   pub indexed : IndexOf s W' X' N'
   pub only : OnlySheet s W X N W' X' N'
   pub sized : Sized W' X' N'
+
+-- r tells what a look came to: the columns that lost a value, as an error where the sheet is not satisfied
+abbrev pub Looked : List ℕ → ℕ → (D W X N D' W' X' N' : List ℕ) → Result ℕ ℕ → Type 0
+Looked b s D W X N D' W' X' N' (Ok lost) = Revised b s D W X N D' W' X' N' true lost
+Looked b s D W X N D' W' X' N' (Err lost) = Revised b s D W X N D' W' X' N' false lost

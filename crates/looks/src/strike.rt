@@ -1,23 +1,23 @@
 // Pass 2, second half: the columns of a sheet struck to the values with support; and the whole look at a sheet.
-ghost use Rattle.std.specs.Prelude.{◌≡◌, true, ◌<◌, replicate};
-ghost use Rattle.model.specs.Stores.{IsStore};
+ghost use Rattle.std.specs.Prelude.{◌≡◌, true, ◌<◌};
 ghost use Rattle.heads.specs.Heads.{forbids_of, width_of};
-ghost use Rattle.cells.specs.Cells.{SmallSets};
-ghost use Rattle.words.specs.Sheets.{AtSheet, FindsSupported, IsSheet, OnlySheet, RowsAre, RowsKnown, SheetWords, ShortPlaces, Sized};
+ghost use Rattle.words.specs.Sheets.{FindsSupported, OnlySheet, RowsAre, RowsKnown, SheetWords, Sized};
 ghost use Rattle.looks.specs.Strikes.{StruckPlace, StruckTo};
-ghost use Rattle.looks.specs.Looks.{Revised, SheetKnown, Struck};
+ghost use Rattle.looks.specs.Looks.{Looked, SheetKnown, Struck};
 
-use crate::count::*;
-use words::cut::*;
-use words::gather::*;
+use crate::count::unforbidden;
+use words::cut::{cut_inside, cut_places};
+use words::gather::{carried, wanted};
+use words::index::Rows;
+use words::sheet::{LaidSheet, Sheet};
 
-// The column of place j of sheet s struck to the values in y. The column as a bit, if it lost one.
-fn struck(book: &[u8], s: usize, j: usize, y: u32, dom: &mut [u32; 16]) -> u32
-    requires { IsSheet book.now s × (j < 4) × IsStore 16 dom.old }
-    ensures { StruckPlace book.now s j y dom.old dom.new result }
+// The column of place j of the sheet struck to the values in y. The column as a bit, if it lost one.
+fn struck(sheet: &Sheet<'_>, j: usize, y: u32, dom: &mut [u32; 16]) -> u32
+    requires { j < 4 }
+    ensures { StruckPlace sheet.now.book.now sheet.now.number j y dom.old dom.new result }
 {
-    if j < heads::head::width(book, s) {
-        let c = heads::head::column(book, s, j);
+    if j < sheet.width() {
+        let c = sheet.column(j);
         let d = dom[c];
         let e = d & y;
         if e != d {
@@ -28,139 +28,82 @@ fn struck(book: &[u8], s: usize, j: usize, y: u32, dom: &mut [u32; 16]) -> u32
     0
 }
 
-// Every column of sheet s struck to the values in y. The columns that lost a value.
-fn strike_to(book: &[u8], s: usize, y: &[u32; 4], dom: &mut [u32; 16]) -> u32
-    requires { IsSheet book.now s × IsStore 16 dom.old }
-    ensures { StruckTo book.now s (width_of book.now s) y.now dom.old dom.new result }
+// Every column of the sheet struck to the values in y. The columns that lost a value.
+fn strike_to(sheet: &Sheet<'_>, y: &[u32; 4], dom: &mut [u32; 16]) -> u32
+    ensures { StruckTo sheet.now.book.now sheet.now.number (width_of sheet.now.book.now sheet.now.number) y.now dom.old dom.new result }
 {
-    let k = heads::head::width(book, s);
     let mut lost: u32 = 0;
-    let mut j: usize = 0;
-    while j < k {
-        lost = lost | struck(book, s, j, y[j], dom);
-        j += 1;
+    for j in 0..sheet.width() {
+        lost = lost | struck(sheet, j, y[j], dom);
     }
     lost
 }
 
-// The values with support at each place of sheet s: those that a row carries, or that are not forbidden.
-fn supported(
-    book: &[u8],
-    begin: usize,
-    s: usize,
-    shorts: u32,
-    x: &[u32; 4],
-    y: &mut [u32; 4],
-    valid: &[u64; 64],
-    index: &[u8; 64],
-    nonzero: &[u8; 8],
-)
-    requires { AtSheet book.now begin s × SheetWords book.now s valid.now index.now nonzero.now × ShortPlaces book.now s shorts × (y.old ≡ replicate 4 0) × SmallSets x.now }
-    ensures { FindsSupported book.now s valid.now x.now y.new }
+// The values with support at each place of the sheet: those that a row carries, or that are not forbidden.
+fn supported(laid: &LaidSheet<'_>, x: &[u32; 4], rows: &Rows) -> [u32; 4]
+    requires { SheetWords laid.now.sheet.book.now laid.now.sheet.number rows.now.valid rows.now.index rows.now.nonzero }
+    ensures { FindsSupported laid.now.sheet.book.now laid.now.sheet.number rows.now.valid x.now result }
 {
-    if heads::head::forbids(book, s) {
-        let k = heads::head::width(book, s);
-        unforbidden(book, begin, s, k, x, y, valid, index, nonzero);
-        return;
+    if laid.sheet.forbids() {
+        return unforbidden(&laid.sheet, x, rows);
     }
-    carried(book, begin, s, shorts, x, y, valid, index, nonzero);
+    carried(laid, x, rows)
 }
 
-// Every column of sheet s struck to the values with support. The columns that lost a value.
-fn strike(
-    book: &[u8],
-    begin: usize,
-    s: usize,
-    shorts: u32,
-    dom: &mut [u32; 16],
-    valid: &[u64; 64],
-    index: &[u8; 64],
-    nonzero: &[u8; 8],
-) -> u32
-    requires { AtSheet book.now begin s × SheetWords book.now s valid.now index.now nonzero.now × IsStore 16 dom.old × ShortPlaces book.now s shorts × RowsAre book.now s dom.old valid.now }
-    ensures { Struck book.now s dom.old dom.new result }
+// Every column of the sheet struck to the values with support. The columns that lost a value.
+fn strike(laid: &LaidSheet<'_>, dom: &mut [u32; 16], rows: &Rows) -> u32
+    requires { SheetWords laid.now.sheet.book.now laid.now.sheet.number rows.now.valid rows.now.index rows.now.nonzero × RowsAre laid.now.sheet.book.now laid.now.sheet.number dom.old rows.now.valid }
+    ensures { Struck laid.now.sheet.book.now laid.now.sheet.number dom.old dom.new result }
 {
-    let mut x = [1u32; 4];
-    let mut y = [0u32; 4];
-    wanted(book, s, dom, &mut x);
-    supported(book, begin, s, shorts, &x, &mut y, valid, index, nonzero);
-    strike_to(book, s, &y, dom)
-}
-
-// What a look at a sheet comes to: whether the sheet can still be satisfied, and the columns that lost a value.
-#[derive(Clone, Copy)]
-pub struct Revision {
-    pub satisfied: bool,
-    pub lost: u32,
-}
-
-fn seen_as(satisfied: bool, lost: u32) -> Revision
-    ensures { (result.satisfied ≡ satisfied) × (result.lost ≡ lost) }
-{
-    Revision {
-        satisfied: satisfied,
-        lost: lost,
-    }
+    let x = wanted(&laid.sheet, dom);
+    let y = supported(laid, &x, rows);
+    strike_to(&laid.sheet, &y, dom)
 }
 
 // The rows of a forbidden sheet cut by its own strikes: `lost` are the columns that lost a value by them.
-fn cut_struck(
-    book: &[u8],
-    begin: usize,
-    s: usize,
-    lost: u32,
-    dom: &[u32; 16],
-    valid: &mut [u64; 64],
-    index: &mut [u8; 64],
-    nonzero: &mut [u8; 8],
-)
-    requires { AtSheet book.now begin s × (forbids_of book.now s ≡ true) × IsStore 16 dom.now × RowsKnown book.now s lost dom.now valid.old index.old nonzero.old }
-    ensures { RowsKnown book.now s 0 dom.now valid.new index.new nonzero.new × OnlySheet s valid.old index.old nonzero.old valid.new index.new nonzero.new }
+fn cut_struck(sheet: &Sheet<'_>, lost: u32, dom: &[u32; 16], rows: &mut Rows)
+    requires { (forbids_of sheet.now.book.now sheet.now.number ≡ true) × RowsKnown sheet.now.book.now sheet.now.number lost dom.now rows.old.valid rows.old.index rows.old.nonzero }
+    ensures { RowsKnown sheet.now.book.now sheet.now.number 0 dom.now rows.new.valid rows.new.index rows.new.nonzero × OnlySheet sheet.now.number rows.old.valid rows.old.index rows.old.nonzero rows.new.valid rows.new.index rows.new.nonzero }
 {
     if lost == 0 {
         return;
     }
-    let mut x = [1u32; 4];
-    wanted(book, s, dom, &mut x);
-    cut_inside(book, begin, s, &x, valid, index, nonzero);
+    let x = wanted(sheet, dom);
+    cut_inside(sheet, &x, rows);
 }
 
-// Sheet s looked at, whose columns in `changed` lost values since it was last looked at.
+// The sheet looked at, whose columns in `changed` lost values since it was last looked at: the columns that lost a value, as an error where it cannot be
+// satisfied any more.
 //
 // One that allows its rows fails where no row is left, and where no row was cut, every value keeps its support. One that forbids them has fewer choices as soon
 // as a column lost a value, even where no row was cut, so values are always counted; it fails where its first column becomes empty, and with it all of them.
 // What it strikes may be in rows that are set: these are cut at the end.
 pub fn revise(
-    book: &[u8],
-    begin: usize,
-    s: usize,
-    shorts: u32,
+    laid: &LaidSheet<'_>,
     changed: u32,
     opening: bool,
     dom: &mut [u32; 16],
-    valid: &mut [u64; 64],
-    index: &mut [u8; 64],
-    nonzero: &mut [u8; 8],
-) -> Revision
-    requires { AtSheet book.now begin s × SheetKnown book.now s changed opening dom.old valid.old index.old nonzero.old × Sized valid.old index.old nonzero.old × IsStore 16 dom.old × ShortPlaces book.now s shorts }
-    ensures { Revised book.now s dom.old valid.old index.old nonzero.old dom.new valid.new index.new nonzero.new result.satisfied result.lost }
+    rows: &mut Rows,
+) -> Result<u32, u32>
+    requires { SheetKnown laid.now.sheet.book.now laid.now.sheet.number changed opening dom.old rows.old.valid rows.old.index rows.old.nonzero × Sized rows.old.valid rows.old.index rows.old.nonzero }
+    ensures { Looked laid.now.sheet.book.now laid.now.sheet.number dom.old rows.old.valid rows.old.index rows.old.nonzero dom.new rows.new.valid rows.new.index rows.new.nonzero result }
 {
-    let forbids = heads::head::forbids(book, s);
-    let cut = cut_places(book, begin, s, changed, opening, dom, valid, index, nonzero);
+    let sheet = laid.sheet;
+    let forbids = sheet.forbids();
+    let cut = cut_places(&sheet, changed, opening, dom, rows);
     if !(forbids | cut) {
-        return seen_as(true, 0);
+        return Ok(0);
     }
-    if !(forbids | (nonzero[s] != 0)) {
-        return seen_as(false, 0);
+    if !(forbids | (rows.nonzero[sheet.number] != 0)) {
+        return Err(0);
     }
-    let lost = strike(book, begin, s, shorts, dom, valid, index, nonzero);
+    let lost = strike(laid, dom, rows);
     if !forbids {
-        return seen_as(true, lost);
+        return Ok(lost);
     }
-    let c = heads::head::column(book, s, 0);
-    if dom[c] == 0 {
-        return seen_as(false, lost);
+    if dom[sheet.column(0)] == 0 {
+        return Err(lost);
     }
-    cut_struck(book, begin, s, lost, dom, valid, index, nonzero);
-    seen_as(true, lost)
+    cut_struck(&sheet, lost, dom, rows);
+    Ok(lost)
 }

@@ -1,11 +1,14 @@
 -- What a run of a list gives: its number, and the answer space when it is over. b and o are the bytes of the book and of the orders: `book_of b`
 -- (book, Decoding) is the book that they stand for, `orders_of o` (sessions, Lists) the orders, 8 bytes each. Quoted are document 01 and the demands.
-use Rattle.std.specs.Prelude.{◌≡◌, Bool, ◌||◌, cond, false, not, List, ◌%◌, ◌*◌, ◌+◌, ◌/◌, ◌≤◌, ℕ, eqb, leb, ltb, length}
+use Rattle.std.specs.Prelude.{◌≡◌, Bool, ◌||◌, cond, false, not, List, ◌%◌, ◌*◌, ◌+◌, ◌/◌, ◌≤◌, ℕ, Result, Ok, Err, eqb, leb, ltb, length}
 use Rattle.model.specs.Answers.{accepted_count, answers}
 use Rattle.book.specs.Decoding.{book_of}
+use Rattle.book.specs.Refusals.{refusal_number}
 use Rattle.book.specs.Verdicts.{Accepted, check_result, refused}
 use Rattle.sessions.specs.Lists.{orders_of}
 use Rattle.answers.specs.Spaces.{written}
+use Rattle.runs.specs.declared.run.RunRefusal.{RunRefusal}
+use Rattle.runs.specs.declared.run.RunRefusal.TheVariants as refusal
 
 -- "10 if the orders aren't a multiple of 8 bytes or exceed 2,048 bytes"
 unfoldable pub wrong_list : List ℕ → Bool
@@ -38,3 +41,13 @@ run_result b o room =
 unfoldable pub run_space : List ℕ → List ℕ → List ℕ → List ℕ
 run_space b o space =
     cond (eqb (run_refusal b o (length space)) 0) (written (answers (book_of b) (orders_of o)) space) space
+
+-- the number of a refusal that the code holds, and of what a run returns
+abbrev pub run_refusal_number : RunRefusal → ℕ
+run_refusal_number (refusal.Book r) = refusal_number r
+run_refusal_number refusal.List = refused 10 0
+run_refusal_number (refusal.Space n) = refused 11 n
+
+abbrev pub run_number : Result ℕ RunRefusal → ℕ
+run_number (Ok n) = n
+run_number (Err r) = run_refusal_number r

@@ -1,18 +1,43 @@
 // The run of a list: any bytes as book and orders, any answer space.
-ghost use Rattle.std.specs.Prelude.{◌≡◌, ◌+◌, ◌*◌, ◌/◌, ◌<◌, length};
-ghost use Rattle.runs.specs.Results.{wrong_list, RightInput, run_result, run_space};
+ghost use Rattle.std.specs.Prelude.{◌≡◌, ◌/◌, length};
+ghost use Rattle.runs.specs.Results.{RightInput, run_number, run_refusal_number, run_result, run_space, wrong_list};
 ghost use Rattle.runs.specs.Runs.{RanTo};
+ghost use Rattle.runs.specs.declared.run.RunRefusal.TheVariants as refusal;
 
+use book::{Book, Refusal};
 use engine::layout::*;
-use fields::wide;
-use sessions::orders::*;
+use sessions::orders::read;
 use sessions::session::*;
 use shown::*;
 
-// Refusals 10 and 11, times 65,536.
-const WRONG_LIST: u64 = 655360;
+// Why a run is refused: as its book is, for its list, or for a space shorter than as many bytes.
+#[derive(Clone, Copy, Debug, PartialEq, Eq)]
+pub enum RunRefusal {
+    Book(Refusal),
+    List,
+    Space(u16),
+}
 
-const SHORT_SPACE: u64 = 720896;
+impl From<Refusal> for RunRefusal {
+    ghost from_gives = { λ r s. s ≡ refusal.Book r };
+
+    fn from(refusal: Refusal) -> RunRefusal {
+        RunRefusal::Book(refusal)
+    }
+}
+
+impl RunRefusal {
+    // Refusal and place as the one number that the call returns.
+    pub fn number(self) -> u64
+        ensures { result ≡ run_refusal_number self }
+    {
+        match self {
+            RunRefusal::Book(refusal) => refusal.number(),
+            RunRefusal::List => 10 * 65536,
+            RunRefusal::Space(needed) => 11 * 65536 + u64::from(needed),
+        }
+    }
+}
 
 // What is left when every order has been run: how many were accepted, and the session.
 #[derive(Clone, Copy)]
@@ -23,73 +48,47 @@ pub struct Ran {
 
 // Every order run in turn, from the opening, and answered. A narrow, a mark and a back take the session and give it back; any other order, and a
 // refused one, leaves it alone.
-pub fn run_orders(book: &[u8], orders: &[u8], answers: &mut [u8]) -> Ran
-    requires { RightInput book.now orders.now (length answers.old) }
-    ensures { RanTo book.now orders.now answers.old (length orders.now / 8) result.session result.accepted answers.new }
+pub fn run_orders(book: &Book<'_>, orders: &[u8], answers: &mut [u8]) -> Ran
+    requires { RightInput book.now.bytes.now orders.now (length answers.old) }
+    ensures { RanTo book.now.bytes.now orders.now answers.old (length orders.now / 8) result.session result.accepted answers.new }
 {
-    let mut begins = [0usize; 8];
-    let mut scopes = [0u32; 8];
-    let mut shorts = [0u32; 8];
-    lay_out(book, &mut begins, &mut scopes, &mut shorts);
-    let mut s = open(book, &begins, &scopes, &shorts);
-    let first = s.now;
-    let mut told = show_opening(answers, book, &begins, &shorts, first);
+    let layout = lay_out(book);
+    let mut session = open(&layout);
+    // The state is copied before it is lent: lent from within the session, that would be copied whole at each order.
+    let state = session.now;
+    let mut told = show_opening(answers, &layout.sheets, &state);
     let mut accepted: u64 = 0;
-    let mut i: usize = 0;
-    while i < orders.len() / 8 {
-        let order = &orders[8 * i..8 * i + 8];
-        let depth = s.depth;
-        let r = refusal(book, depth, order);
-        i += 1;
-        if r == 0 {
+    for (i, bytes) in orders.chunks_exact(8).enumerate() {
+        let order = read(book, session.depth, bytes);
+        if let Ok(order) = order {
             accepted += 1;
-            if order[0] == 1 {
-                let c = wide(order[1]);
-                let m = mask_of(order);
-                s = s.narrow(book, &begins, &scopes, &shorts, c, m);
-            } else if order[0] == 2 {
-                s = s.mark();
-            } else if order[0] == 3 {
-                s = s.back(wide(order[1]));
-            }
+            session = session.take(&layout, order);
         }
-        let d = s.depth;
-        let st = s.now;
-        told = show_order(
-            answers, i, book, &begins, &scopes, &shorts, order, r, d, told, st,
-        );
+        let state = session.now;
+        told = show_order(answers, i + 1, &layout, order, session.depth, told, &state);
     }
-    Ran {
-        accepted: accepted,
-        session: s,
-    }
+    Ran { accepted, session }
 }
 
 // Whether the bytes are no list of at most 256 orders.
 fn wrong_list(orders: &[u8]) -> bool
     ensures { result ≡ wrong_list orders.now }
 {
-    if 2048 < orders.len() {
-        return true;
-    }
-    orders.len() % 8 != 0
+    2048 < orders.len() || orders.len() % 8 != 0
 }
 
-// The number of a run, and its answers.
-pub fn run(book: &[u8], orders: &[u8], answers: &mut [u8]) -> u64
-    ensures { (result ≡ run_result book.now orders.now (length answers.old)) × (answers.new ≡ run_space book.now orders.now answers.old) }
+// The number of orders that are accepted, and the answers, or why the run is refused.
+pub fn run(book: &[u8], orders: &[u8], answers: &mut [u8]) -> Result<u64, RunRefusal>
+    ensures { (run_number result ≡ run_result book.now orders.now (length answers.old)) × (answers.new ≡ run_space book.now orders.now answers.old) }
 {
-    let verdict = book::check(book);
-    if 65536 <= verdict {
-        return verdict;
-    }
+    let book = book::check(book)?;
     if wrong_list(orders) {
-        return WRONG_LIST;
+        return Err(RunRefusal::List);
     }
     let needed = 72 * (orders.len() / 8 + 1);
     if answers.len() < needed {
-        return SHORT_SPACE + (needed as u64);
+        return Err(RunRefusal::Space(needed as u16));
     }
-    let r = run_orders(book, orders, answers);
-    r.accepted
+    let ran = run_orders(&book, orders, answers);
+    Ok(ran.accepted)
 }

@@ -1,5 +1,5 @@
 -- The search of a finish: what it starts from, and what it gives.
-use Rattle.std.specs.Prelude.{◌≡◌, true, List, ◌<◌, ℕ, get_or}
+use Rattle.std.specs.Prelude.{◌≡◌, true, List, ◌<◌, ℕ, get_or, replicate}
 use Rattle.model.specs.Answers.{Outcome, limited, outcome_masks, outcome_number, outcome_tries}
 use Rattle.model.specs.Books.{column_count}
 use Rattle.model.specs.Orders.{Entry, domains}
@@ -11,13 +11,35 @@ use Rattle.engine.specs.Propagation.{is_open, store_in}
 use Rattle.engine.specs.States.{StateIs}
 use Rattle.engine.specs.declared.state.State.{State}
 use Rattle.search.specs.declared.Outcome.{Outcome as Held}
+use Rattle.search.specs.declared.Outcome.TheVariants.{Found, NotFound, StateOnly, Stopped}
 
 -- ---- what is given
+-- what an answer shows of f: byte 3
+abbrev pub number_in : Held → ℕ
+number_in StateOnly = 0
+number_in (Found x t) = 1
+number_in (NotFound t) = 2
+number_in (Stopped t) = 3
+
+-- the tries made
+abbrev pub tries_in : Held → ℕ
+tries_in StateOnly = 0
+tries_in (Found x t) = t
+tries_in (NotFound t) = t
+tries_in (Stopped t) = t
+
+-- and the masks, where the state has the domains D
+abbrev pub masks_in : List ℕ → Held → List ℕ
+masks_in D StateOnly = D
+masks_in D (Found x t) = x
+masks_in D (NotFound t) = replicate 16 0
+masks_in D (Stopped t) = replicate 16 0
+
 -- f has what the outcome x shows: its number, its tries, and its masks over the domains D; "zero from C on"
 pub record OutcomeIs (b D : List ℕ) (x : Outcome) (f : Held) : Type 0 where
-  pub number : f.number ≡ outcome_number x
-  pub tries : f.tries ≡ outcome_tries x
-  pub masks : (c : ℕ) → c < 16 → get_or f.masks c 0 ≡ get_or (outcome_masks (column_count (book_of b)) D x) c 0
+  pub number : number_in f ≡ outcome_number x
+  pub tries : tries_in f ≡ outcome_tries x
+  pub masks : (c : ℕ) → c < 16 → get_or (masks_in D f) c 0 ≡ get_or (outcome_masks (column_count (book_of b)) D x) c 0
 
 -- f is what the search g comes to with the limit n, after m tries. It shows no domain, so D is any
 pub record Reaches (b : List ℕ) (n m : ℕ) (g : Searched) (f : Held) : Type 0 where
@@ -37,11 +59,11 @@ Finishes b st n f =
     (L : List Entry) → StateIs b L st → (D : List ℕ) → OutcomeIs b D (limited n (searched (book_of b) (domains (book_of b) L))) f
 
 -- ---- what the search stands at
--- the arrays are the state of some trail, and it is not failed
-pub record FilledState (b D W X N : List ℕ) : Type 0 where
+-- st is the state of some trail, and it is not failed
+pub record FilledState (b : List ℕ) (st : State) : Type 0 where
   pub trail : List Entry
-  pub is : StateIs b trail (record { dom = D; valid = W; index = X; nonzero = N })
-  pub filled : (c : ℕ) → c < columns_of b → (v : ℕ) × (has D c v ≡ true)
+  pub is : StateIs b trail st
+  pub filled : (c : ℕ) → c < columns_of b → (v : ℕ) × (has st.dom c v ≡ true)
 
 -- v is a value of column c, and there are more
 pub record OpenValue (b D : List ℕ) (c v : ℕ) : Type 0 where

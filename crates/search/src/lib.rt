@@ -13,168 +13,119 @@
 // to v is a narrow of c to v alone. So what `try_value` propagates is what a narrow would, and the caller's arrays stay as they are.
 #![tactic(auto)]
 
-ghost use Rattle.std.specs.Prelude.{◌≡◌, true, ◌<◌, ◌≤◌, replicate};
-ghost use Rattle.std.specs.Int.Count.{count_trailing_zeros};
-ghost use Rattle.model.specs.Tests.{FirstIn};
-ghost use Rattle.model.specs.Masks.{bit};
-ghost use Rattle.engine.specs.Layouts.{LayoutOf};
+ghost use Rattle.std.specs.Prelude.{◌≡◌, ◌≤◌};
+ghost use Rattle.model.specs.Tests.{FirstOf};
 ghost use Rattle.engine.specs.Propagation.{is_open};
 ghost use Rattle.engine.specs.States.{SomeState};
-ghost use Rattle.search.specs.Searches.{FilledState, Finishes, OpenValue, Reaches, search_after, search_in};
+ghost use Rattle.search.specs.Searches.{FilledState, Finishes, OpenValue, Reaches, masks_in, number_in, search_after, search_in, tries_in};
 
-use engine::state::*;
+use cells::bits::*;
+use engine::layout::Layout;
+use engine::propagate::fixpoint;
+use engine::state::State;
+use engine::worklist::waiting_for;
 
-// What an answer shows besides the state: byte 3 (1 found, 2 none, 3 stopped), the tries made, and the masks in the domains' place.
+// What an answer shows besides the state: of a finish what it came to, and the tries made.
 #[derive(Clone, Copy)]
-pub struct Outcome {
-    pub number: u8,
-    pub tries: u32,
-    pub masks: [u32; 16],
+pub enum Outcome {
+    StateOnly,
+    Found { masks: [u32; 16], tries: u32 },
+    NotFound { tries: u32 },
+    Stopped { tries: u32 },
 }
 
-// An outcome that shows no solution.
-fn nothing(number: u8, tries: u32) -> Outcome
-    ensures { (result.number ≡ number) × (result.tries ≡ tries) × (result.masks ≡ replicate 16 0) }
-{
-    Outcome {
-        number: number,
-        tries: tries,
-        masks: [0u32; 16],
-    }
-}
-
-// The lowest column with two values or more, or 16.
-fn open_column(dom: &[u32; 16]) -> usize
-    ensures { FirstIn (is_open dom.now) 0 16 result }
-{
-    let mut c: usize = 0;
-    while c < 16 {
-        if cells::bits::two_or_more(dom[c]) {
-            return c;
+impl Outcome {
+    // Byte 3 of an answer.
+    pub fn number(&self) -> u8
+        ensures { result ≡ number_in self.now }
+    {
+        match self {
+            Outcome::StateOnly => 0,
+            Outcome::Found { .. } => 1,
+            Outcome::NotFound { .. } => 2,
+            Outcome::Stopped { .. } => 3,
         }
-        c += 1;
     }
-    c
+
+    // The tries made: none where there was no finish.
+    pub fn tries(&self) -> u32
+        ensures { result ≡ tries_in self.now }
+    {
+        match self {
+            Outcome::StateOnly => 0,
+            Outcome::Found { tries, .. }
+            | Outcome::NotFound { tries }
+            | Outcome::Stopped { tries } => *tries,
+        }
+    }
+
+    // The masks that an answer shows: those of a state with these domains, or of a finish the full set that it found.
+    pub fn masks(&self, dom: &[u32; 16]) -> [u32; 16]
+        ensures { result ≡ masks_in dom.now self.now }
+    {
+        match self {
+            Outcome::StateOnly => *dom,
+            Outcome::Found { masks, .. } => *masks,
+            Outcome::NotFound { .. } | Outcome::Stopped { .. } => [0; 16],
+        }
+    }
 }
 
-// The lowest value of a domain.
-fn lowest_value(d: u32) -> u32
-    requires { 0 < d }
-    ensures { (result ≡ count_trailing_zeros 32 d) × (bit result d ≡ true) }
+// The lowest column with two values or more.
+fn open_column(dom: &[u32; 16]) -> Option<usize>
+    ensures { FirstOf (is_open dom.now) 0 16 result }
 {
-    u32::trailing_zeros(d)
+    dom.iter().position(|d| two_or_more(*d))
 }
 
 // The search in a state that is not failed, when as many tries were made.
 #[cycle(pick_column_try_value)]
-fn pick_column(
-    book: &[u8],
-    begins: &[usize; 8],
-    scopes: &[u32; 8],
-    shorts: &[u32; 8],
-    dom: &[u32; 16],
-    valid: &[u64; 64],
-    index: &[u8; 64],
-    nonzero: &[u8; 8],
-    limit: u32,
-    made: u32,
-) -> Outcome
-    requires { LayoutOf book.now begins.now scopes.now shorts.now × FilledState book.now dom.now valid.now index.now nonzero.now × (made ≤ limit) }
-    ensures { Reaches book.now limit made (search_in book.now dom.now) result }
+fn pick_column(layout: &Layout<'_>, state: &State, limit: u32, made: u32) -> Outcome
+    requires { FilledState layout.now.sheets.book.now state.now × (made ≤ limit) }
+    ensures { Reaches layout.now.sheets.book.now limit made (search_in layout.now.sheets.book.now state.now.dom) result }
 {
-    let c = open_column(dom);
-    if c == 16 {
-        let d = *dom;
-        return Outcome {
-            number: 1,
+    let Some(c) = open_column(&state.dom) else {
+        return Outcome::Found {
+            masks: state.dom,
             tries: made,
-            masks: d,
         };
-    }
-    let mut rest = dom[c];
+    };
     let mut tries = made;
-    while rest != 0 {
-        let v = lowest_value(rest);
+    for v in Places::of(u64::from(state.dom[c])) {
         if tries == limit {
-            return nothing(3, limit);
+            return Outcome::Stopped { tries: limit };
         }
-        let f = try_value(
-            book,
-            begins,
-            scopes,
-            shorts,
-            dom,
-            valid,
-            index,
-            nonzero,
-            c,
-            v,
-            limit,
-            tries + 1,
-        );
-        if f.number != 2 {
-            return f;
+        match try_value(layout, state, c, v, limit, tries + 1) {
+            Outcome::NotFound { tries: all } => tries = all,
+            found_or_stopped => return found_or_stopped,
         }
-        tries = f.tries;
-        rest = cells::bits::others(rest);
     }
-    nothing(2, tries)
+    Outcome::NotFound { tries }
 }
 
 // The search with the value v in column c, which has two values or more, when as many tries were made, this one among them.
 #[cycle(pick_column_try_value)]
-fn try_value(
-    book: &[u8],
-    begins: &[usize; 8],
-    scopes: &[u32; 8],
-    shorts: &[u32; 8],
-    dom: &[u32; 16],
-    valid: &[u64; 64],
-    index: &[u8; 64],
-    nonzero: &[u8; 8],
-    c: usize,
-    v: u32,
-    limit: u32,
-    made: u32,
-) -> Outcome
-    requires { LayoutOf book.now begins.now scopes.now shorts.now × FilledState book.now dom.now valid.now index.now nonzero.now × OpenValue book.now dom.now c v × (made ≤ limit) }
-    ensures { Reaches book.now limit made (search_after book.now dom.now c v) result }
+fn try_value(layout: &Layout<'_>, state: &State, c: usize, v: u32, limit: u32, made: u32) -> Outcome
+    requires { FilledState layout.now.sheets.book.now state.now × OpenValue layout.now.sheets.book.now state.now.dom c v × (made ≤ limit) }
+    ensures { Reaches layout.now.sheets.book.now limit made (search_after layout.now.sheets.book.now state.now.dom c v) result }
 {
     let column = 1u32 << c;
-    let waiting = engine::worklist::waiting_for(scopes, column);
-    let mut d = *dom;
-    let mut l = *valid;
-    let mut x = *index;
-    let mut n = *nonzero;
-    d[c] = cells::bits::only(v);
-    if engine::propagate::fixpoint(
-        book, begins, scopes, shorts, waiting, column, false, &mut d, &mut l, &mut x, &mut n,
-    ) {
-        return pick_column(book, begins, scopes, shorts, &d, &l, &x, &n, limit, made);
+    let waiting = waiting_for(&layout.scopes, column);
+    let mut next = *state;
+    next.dom[c] = only(v);
+    if fixpoint(layout, waiting, column, false, &mut next) {
+        return pick_column(layout, &next, limit, made);
     }
-    nothing(2, made)
+    Outcome::NotFound { tries: made }
 }
 
 // A finish of the state of a trail, with this limit.
-pub fn finish(
-    book: &[u8],
-    begins: &[usize; 8],
-    scopes: &[u32; 8],
-    shorts: &[u32; 8],
-    st: State,
-    limit: u32,
-) -> Outcome
-    requires { LayoutOf book.now begins.now scopes.now shorts.now × SomeState book.now st }
-    ensures { Finishes book.now st limit result }
+pub fn finish(layout: &Layout<'_>, state: &State, limit: u32) -> Outcome
+    requires { SomeState layout.now.sheets.book.now state.now }
+    ensures { Finishes layout.now.sheets.book.now state.now limit result }
 {
-    let dom = st.dom;
-    if dom[0] == 0 {
-        return nothing(2, 0);
+    if state.dom[0] == 0 {
+        return Outcome::NotFound { tries: 0 };
     }
-    let valid = st.valid;
-    let index = st.index;
-    let nonzero = st.nonzero;
-    pick_column(
-        book, begins, scopes, shorts, &dom, &valid, &index, &nonzero, limit, 0,
-    )
+    pick_column(layout, state, limit, 0)
 }

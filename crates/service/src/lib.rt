@@ -26,5 +26,8 @@ pub fn fitting_run(book: &[u8], orders: &[u8], answers: &mut [u8]) -> u64
     ensures value { result ≡ run_result book.now orders.now (length answers.old) }
     ensures answers_after { answers.new ≡ run_space book.now orders.now answers.old }
 {
-    runs::run::run(book, orders, answers)
+    match runs::run::run(book, orders, answers) {
+        Ok(accepted) => accepted,
+        Err(refusal) => refusal.number(),
+    }
 }

@@ -2,13 +2,16 @@
 use Rattle.std.specs.Prelude.{◌≡◌, List, [], ◌++◌, ◌∷◌, ◌<◌, ◌≤◌, suc, ℕ, get_or, length}
 use Rattle.model.specs.Orders.{Entry, before, checkpoint, depth, kind, narrowed, push, refusal}
 use Rattle.book.specs.Decoding.{book_of}
-use Rattle.engine.specs.States.{StateIs}
+use Rattle.heads.specs.Heads.{columns_of}
+use Rattle.engine.specs.States.{StateIs, state_of}
+use Rattle.sessions.specs.declared.orders.Order.{Order}
+use Rattle.sessions.specs.declared.orders.Order.TheVariants.{Back, Finish, Mark, Narrow}
 use Rattle.sessions.specs.declared.session.Session.{Session}
 use Rattle.engine.specs.declared.state.State.{State}
 
 -- what stands past the last saved state
 abbrev pub no_state : State
-no_state = record { dom = []; valid = []; index = []; nonzero = [] }
+no_state = state_of [] [] [] []
 
 -- the session s over the book b when the trail L stands: its state is that of L, its depth the number of checkpoints, and for each checkpoint
 -- it has saved the state of the trail before it: domains, words, index and counts
@@ -35,6 +38,20 @@ MarkHolds s t = (b : List ℕ) (L : List Entry) → Holds b L s → Holds b (L +
 -- what stands before checkpoint m
 abbrev pub BackHolds : ℕ → Session → Session → Type 0
 BackHolds m s t = (b : List ℕ) (L : List Entry) → Holds b L s → Holds b (before m L) t
+
+-- what an order asks of the session that takes it
+abbrev pub Fits : List ℕ → Session → Order → Type 0
+Fits b s (Narrow c m) = c < columns_of b
+Fits b s Mark = s.depth < 16
+Fits b s (Back m) = (1 ≤ m) × (m ≤ s.depth) × (s.depth ≤ 16)
+Fits b s (Finish n) = Unit {0}
+
+-- and what it makes of that session: a finish leaves it as it is
+abbrev pub TakeHolds : List ℕ → Order → Session → Session → Type 0
+TakeHolds b (Narrow c m) s t = NarrowHolds b c m s t
+TakeHolds b Mark s t = MarkHolds s t
+TakeHolds b (Back m) s t = BackHolds m s t
+TakeHolds b (Finish n) s t = t ≡ s
 
 -- ---- one order
 -- r is the refusal of the order o, whatever trail the session s holds; 0 where it is accepted

@@ -1,60 +1,54 @@
-// One order of 8 bytes: its mask, and whether it is refused.
-ghost use Rattle.std.specs.Prelude.{◌≡◌, ◌<◌, length};
-ghost use Rattle.model.specs.Orders.{back_causes, finish_causes, first_cause, mark_causes, mask, narrow_causes, outside, some_wrong, try_limit, wrong_place, zero_places};
-ghost use Rattle.book.specs.Verdicts.{Accepted};
-ghost use Rattle.heads.specs.Heads.{columns_of};
+// One order of 8 bytes: what it asks for, or why it is refused.
+ghost use Rattle.std.specs.Prelude.{◌≡◌, ◌∷◌, ◌<◌, IfOk, length};
+ghost use Rattle.model.specs.Orders.{back_causes, finish_causes, first_cause, kind, mark_causes, mask, narrow_causes, outside, refuse◌if◌, some_wrong, try_limit};
 ghost use Rattle.book.specs.Decoding.{book_of};
+ghost use Rattle.heads.specs.Heads.{columns_of};
 ghost use Rattle.sessions.specs.Holds.{RefusesAt};
+ghost use Rattle.sessions.specs.Readings.{order_is, refused_in, refused_number};
 
-use engine::state::*;
+use book::Book;
+use engine::state::places_below;
+use heads::limit::any_set;
 
-// Whether byte i is at one of these places, and isn't zero.
-fn wrong_place(order: &[u8], places: u32, i: usize) -> bool
-    requires { (length order.now ≡ 8) × (i < 8) }
-    ensures { result ≡ wrong_place places order.now i }
-{
-    if cells::bits::has(places as u64, i as u32) == 0 {
-        return false;
-    }
-    order[i] != 0
+// Why an order is refused; answers show its number.
+#[derive(Clone, Copy, Debug, PartialEq, Eq)]
+pub enum Refused {
+    Kind,
+    Column,
+    Mask,
+    Marks,
+    Back,
+    Bytes,
+    Limit,
 }
 
-// Whether a byte at one of these places isn't zero.
-fn some_wrong(order: &[u8], places: u32) -> bool
-    requires { length order.now ≡ 8 }
-    ensures { result ≡ some_wrong places order.now }
-{
-    let mut i: usize = 0;
-    while i < 8 {
-        if wrong_place(order, places, i) {
-            return true;
+impl From<Refused> for u8 {
+    ghost from_gives = { λ r n. n ≡ refused_number r };
+
+    fn from(refused: Refused) -> u8 {
+        match refused {
+            Refused::Kind => 20,
+            Refused::Column => 21,
+            Refused::Mask => 22,
+            Refused::Marks => 23,
+            Refused::Back => 24,
+            Refused::Bytes => 25,
+            Refused::Limit => 27,
         }
-        i += 1;
     }
-    false
 }
 
-// The places that must be zero in an order of this kind.
-fn zero_places(kind: u8) -> u32
-    ensures { result ≡ zero_places kind }
-{
-    if kind == 1 {
-        return 12;
-    }
-    if kind == 2 {
-        return 254;
-    }
-    if kind == 3 {
-        return 252;
-    }
-    if kind == 4 {
-        return 14;
-    }
-    0
+// An order that is accepted.
+#[derive(Clone, Copy, Debug, PartialEq, Eq)]
+pub enum Order {
+    Narrow { column: usize, mask: u32 },
+    Mark,
+    Back { mark: usize },
+    Finish { limit: u32 },
 }
 
 // The mask of an order.
-pub fn mask_of(order: &[u8]) -> u32
+fn mask_of(order: &[u8]) -> u32
     requires { length order.now ≡ 8 }
     ensures { result ≡ mask order.now }
 {
@@ -62,96 +56,100 @@ pub fn mask_of(order: &[u8]) -> u32
 }
 
 // The limit of a finish, in the bytes of a mask: the tries that it may make.
-pub fn limit_of(order: &[u8]) -> u32
+fn limit_of(order: &[u8]) -> u32
     requires { length order.now ≡ 8 }
     ensures { result ≡ try_limit order.now }
 {
-    let n = mask_of(order);
-    if n == 0 {
-        return 65535;
+    match mask_of(order) {
+        0 => 65535,
+        n => n,
     }
-    n
 }
 
 // Whether m has a value at or above the V of column c.
-fn outside_column(book: &[u8], c: usize, m: u32) -> bool
-    requires { Accepted book.now × (c < columns_of book.now) }
-    ensures { result ≡ outside (book_of book.now) c m }
+fn outside_column(book: &Book<'_>, c: usize, m: u32) -> bool
+    requires { c < columns_of book.now.bytes.now }
+    ensures { result ≡ outside (book_of book.now.bytes.now) c m }
 {
-    m & !places_below(heads::head::values(book, c)) != 0
+    m & !places_below(book.head().values(c)) != 0
 }
 
-// The refusal of a narrow whose bytes are right, or 0.
-fn refused_narrow(book: &[u8], order: &[u8]) -> u32
-    requires { Accepted book.now × (length order.now ≡ 8) }
-    ensures { result ≡ first_cause (narrow_causes (book_of book.now) order.now) }
+// ---- an order of each kind: which of its bytes must be zero, and its own causes
+
+fn read_narrow(book: &Book<'_>, order: &[u8]) -> Result<Order, Refused>
+    requires { (length order.now ≡ 8) × (kind order.now ≡ 1) }
+    ensures refusal { refused_in result ≡ first_cause ((refuse 25 if some_wrong 12 order.now) ∷ narrow_causes (book_of book.now.bytes.now) order.now) }
+    ensures order { IfOk result (order_is order.now) }
 {
-    let c = fields::wide(order[1]);
-    if heads::head::columns(book) <= c {
-        return 21;
+    if any_set(order, 2, 4) {
+        return Err(Refused::Bytes);
     }
-    if outside_column(book, c, mask_of(order)) {
-        return 22;
+    let column = usize::from(order[1]);
+    if book.head().columns() <= column {
+        return Err(Refused::Column);
     }
-    0
+    let mask = mask_of(order);
+    if outside_column(book, column, mask) {
+        return Err(Refused::Mask);
+    }
+    Ok(Order::Narrow { column, mask })
 }
 
-// The refusal of a mark at this depth, or 0.
-fn refused_mark(depth: usize) -> u32
-    ensures { result ≡ first_cause (mark_causes depth) }
+fn read_mark(depth: usize, order: &[u8]) -> Result<Order, Refused>
+    requires { (length order.now ≡ 8) × (kind order.now ≡ 2) }
+    ensures refusal { refused_in result ≡ first_cause ((refuse 25 if some_wrong 254 order.now) ∷ mark_causes depth) }
+    ensures order { IfOk result (order_is order.now) }
 {
+    if any_set(order, 1, 8) {
+        return Err(Refused::Bytes);
+    }
     if depth == 16 {
-        return 23;
+        return Err(Refused::Marks);
     }
-    0
+    Ok(Order::Mark)
 }
 
-// The refusal of a back at this depth, or 0.
-fn refused_back(depth: usize, order: &[u8]) -> u32
+fn read_back(depth: usize, order: &[u8]) -> Result<Order, Refused>
+    requires { (length order.now ≡ 8) × (kind order.now ≡ 3) }
+    ensures refusal { refused_in result ≡ first_cause ((refuse 25 if some_wrong 252 order.now) ∷ back_causes depth order.now) }
+    ensures order { IfOk result (order_is order.now) }
+{
+    if any_set(order, 2, 8) {
+        return Err(Refused::Bytes);
+    }
+    let mark = usize::from(order[1]);
+    if mark == 0 || depth < mark {
+        return Err(Refused::Back);
+    }
+    Ok(Order::Back { mark })
+}
+
+fn read_finish(order: &[u8]) -> Result<Order, Refused>
+    requires { (length order.now ≡ 8) × (kind order.now ≡ 4) }
+    ensures refusal { refused_in result ≡ first_cause ((refuse 25 if some_wrong 14 order.now) ∷ finish_causes order.now) }
+    ensures order { IfOk result (order_is order.now) }
+{
+    if any_set(order, 1, 4) {
+        return Err(Refused::Bytes);
+    }
+    let limit = limit_of(order);
+    if 65535 < limit {
+        return Err(Refused::Limit);
+    }
+    Ok(Order::Finish { limit })
+}
+
+// What an order asks for, or why it is refused. Of the session its depth is enough.
+pub fn read(book: &Book<'_>, depth: usize, order: &[u8]) -> Result<Order, Refused>
     requires { length order.now ≡ 8 }
-    ensures { result ≡ first_cause (back_causes depth order.now) }
+    ensures refusal { RefusesAt book.now.bytes.now depth order.now (refused_in result) }
+    ensures order { IfOk result (order_is order.now) }
 {
-    let m = fields::wide(order[1]);
-    if m == 0 {
-        return 24;
+    match order[0] {
+        1 => read_narrow(book, order),
+        2 => read_mark(depth, order),
+        3 => read_back(depth, order),
+        4 => read_finish(order),
+        _ => Err(Refused::Kind),
     }
-    if depth < m {
-        return 24;
-    }
-    0
-}
-
-// The refusal of a finish whose bytes are right, or 0.
-fn refused_finish(order: &[u8]) -> u32
-    requires { length order.now ≡ 8 }
-    ensures { result ≡ first_cause (finish_causes order.now) }
-{
-    if 65535 < limit_of(order) {
-        return 27;
-    }
-    0
-}
-
-// The refusal of an order, or 0 where it is accepted. Of the session its depth is enough.
-pub fn refusal(book: &[u8], depth: usize, order: &[u8]) -> u32
-    requires { Accepted book.now × (length order.now ≡ 8) }
-    ensures { RefusesAt book.now depth order.now result }
-{
-    let kind = order[0];
-    if some_wrong(order, zero_places(kind)) {
-        return 25;
-    }
-    if kind == 1 {
-        return refused_narrow(book, order);
-    }
-    if kind == 2 {
-        return refused_mark(depth);
-    }
-    if kind == 3 {
-        return refused_back(depth, order);
-    }
-    if kind == 4 {
-        return refused_finish(order);
-    }
-    20
 }

@@ -8,10 +8,12 @@
 // checkpoint k + 1, with its words, index and counts of words.
 ghost use Rattle.std.specs.Prelude.{[], ◌+◌, ◌<◌, ◌≤◌};
 ghost use Rattle.heads.specs.Heads.{columns_of};
-ghost use Rattle.engine.specs.Layouts.{LayoutOf};
-ghost use Rattle.sessions.specs.Holds.{Holds, SomeSession, NarrowHolds, MarkHolds, BackHolds};
+ghost use Rattle.sessions.specs.Holds.{BackHolds, Fits, Holds, MarkHolds, NarrowHolds, SomeSession, TakeHolds};
 
+use crate::orders::Order;
+use engine::layout::Layout;
 use engine::state::*;
+use words::index::Rows;
 
 #[derive(Clone, Copy)]
 pub struct Session {
@@ -23,76 +25,66 @@ pub struct Session {
 // A state with nothing in it, for marks that do not stand.
 fn blank() -> State {
     State {
-        dom: [0u32; 16],
-        valid: [0u64; 64],
-        index: [0u8; 64],
-        nonzero: [0u8; 8],
+        dom: [0; 16],
+        rows: Rows {
+            valid: [0; 64],
+            index: [0; 64],
+            nonzero: [0; 8],
+        },
     }
 }
 
 // The session of the empty trail.
-pub fn open(book: &[u8], begins: &[usize; 8], scopes: &[u32; 8], shorts: &[u32; 8]) -> Session
-    requires { LayoutOf book.now begins.now scopes.now shorts.now }
-    ensures { Holds book.now [] result }
+pub fn open(layout: &Layout<'_>) -> Session
+    ensures { Holds layout.now.sheets.book.now [] result }
 {
-    let st = opening(book, begins, scopes, shorts);
-    let none = blank();
     Session {
-        now: st,
+        now: opening(layout),
         depth: 0,
-        saved: [none; 16],
+        saved: [blank(); 16],
     }
 }
 
 impl Session {
     // Column c is cut to the values in m.
-    pub fn narrow(
-        mut self,
-        book: &[u8],
-        begins: &[usize; 8],
-        scopes: &[u32; 8],
-        shorts: &[u32; 8],
-        c: usize,
-        m: u32,
-    ) -> Session
-        requires { LayoutOf book.now begins.now scopes.now shorts.now × (c < columns_of book.now) × SomeSession book.now self }
-        ensures { NarrowHolds book.now c m self result }
+    pub fn narrow(mut self, layout: &Layout<'_>, c: usize, m: u32) -> Session
+        requires { (c < columns_of layout.now.sheets.book.now) × SomeSession layout.now.sheets.book.now self }
+        ensures { NarrowHolds layout.now.sheets.book.now c m self result }
     {
-        let st = self.now;
-        let t = st.narrowed(book, begins, scopes, shorts, c, m);
-        self.now = t;
+        self.now = self.now.narrowed(layout, c, m);
         self
     }
 
     // The state is saved.
-    pub fn mark(self) -> Session
+    pub fn mark(mut self) -> Session
         requires { self.depth < 16 }
         ensures { MarkHolds self result }
     {
-        let st = self.now;
-        let at = self.depth;
-        let mut saved = self.saved;
-        saved[at] = st;
-        let depth = at + 1;
-        Session {
-            now: st,
-            depth: depth,
-            saved: saved,
-        }
+        self.saved[self.depth] = self.now;
+        self.depth += 1;
+        self
     }
 
     // The state saved at mark m comes back, and the mark is gone.
-    pub fn back(self, m: usize) -> Session
+    pub fn back(mut self, m: usize) -> Session
         requires { (1 ≤ m) × (m ≤ self.depth) × (self.depth ≤ 16) }
         ensures { BackHolds m self result }
     {
-        let at = m - 1;
-        let saved = self.saved;
-        let st = saved[at];
-        Session {
-            now: st,
-            depth: at,
-            saved: saved,
+        self.depth = m - 1;
+        self.now = self.saved[self.depth];
+        self
+    }
+
+    // What an order makes of the session that accepted it: a finish leaves it alone.
+    pub fn take(self, layout: &Layout<'_>, order: Order) -> Session
+        requires { SomeSession layout.now.sheets.book.now self × Fits layout.now.sheets.book.now self order }
+        ensures { TakeHolds layout.now.sheets.book.now order self result }
+    {
+        match order {
+            Order::Narrow { column, mask } => self.narrow(layout, column, mask),
+            Order::Mark => self.mark(),
+            Order::Back { mark } => self.back(mark),
+            Order::Finish { .. } => self,
         }
     }
 }

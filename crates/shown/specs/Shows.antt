@@ -1,5 +1,5 @@
 -- What an answer shows: of the state, and besides it.
-use Rattle.std.specs.Prelude.{◌≡◌, List, [], ℕ}
+use Rattle.std.specs.Prelude.{◌≡◌, List, [], Option, None, Some, ℕ}
 use Rattle.model.specs.Answers.{Outcome, answer, opening, outcome, showing}
 use Rattle.model.specs.Orders.{Entry, depth, domains, push, refusal}
 use Rattle.book.specs.Decoding.{book_of}
@@ -7,6 +7,8 @@ use Rattle.engine.specs.States.{StateIs}
 use Rattle.engine.specs.declared.state.State.{State}
 use Rattle.search.specs.Searches.{OutcomeIs}
 use Rattle.search.specs.declared.Outcome.{Outcome as Held}
+use Rattle.sessions.specs.Readings.{refused_number}
+use Rattle.sessions.specs.declared.orders.Refused.{Refused}
 use Rattle.status.specs.Status.{SummaryIs}
 use Rattle.status.specs.declared.Summary.{Summary}
 use Rattle.answers.specs.Spaces.{Adds}
@@ -22,10 +24,17 @@ abbrev pub TellsAfter : List ℕ → List ℕ → ℕ → Summary → State → 
 TellsAfter b o r t st t' =
     (L : List Entry) → r ≡ refusal (book_of b) L o → SummaryIs b L t → StateIs b (push (book_of b) L o) st → SummaryIs b (push (book_of b) L o) t'
 
--- answer i shows what t says at depth d, with the refusal r, and f besides, of whatever book and trail
-abbrev pub ShowsAt : Summary → ℕ → ℕ → Held → ℕ → List ℕ → List ℕ → Type 0
-ShowsAt t d r f i space space' =
-    (b : List ℕ) (L : List Entry) (x : Outcome) → SummaryIs b L t → d ≡ depth L → OutcomeIs b (domains (book_of b) L) x f → Adds i (showing (book_of b) L r x) space space'
+-- the byte for a refusal, or for none
+abbrev pub refusal_shown : Option Refused → ℕ
+refusal_shown None = 0
+refusal_shown (Some r) = refused_number r
+
+-- answer i shows what t says at depth d, with the refusal r, and besides f, or where that shows no masks the domains of the state st, of whatever book and
+-- trail
+abbrev pub ShowsAt : Summary → ℕ → ℕ → Held → State → ℕ → List ℕ → List ℕ → Type 0
+ShowsAt t d r f st i space space' =
+    (b : List ℕ) (L : List Entry) (x : Outcome) → SummaryIs b L t → StateIs b L st → d ≡ depth L → OutcomeIs b (domains (book_of b) L) x f
+    → Adds i (showing (book_of b) L r x) space space'
 
 -- answer i is that to the order o, which has the refusal r and leaves the state st at depth d, whatever trail stood before it and said t; t' is what the
 -- one says that stands after it

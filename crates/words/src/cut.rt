@@ -3,165 +3,90 @@ ghost use Rattle.std.specs.Prelude.{◌≡◌, Bool, false, ◌+◌, ◌*◌, �
 ghost use Rattle.heads.specs.Heads.{width_of};
 ghost use Rattle.model.specs.States.{of_sheet};
 ghost use Rattle.cells.specs.Cells.{row_inside};
-ghost use Rattle.words.specs.Sheets.{AtSheet, IndexOf, SheetWords, Sized, WordCut, WordKept, CutBy, value_in, passes_at, passes_below};
+ghost use Rattle.words.specs.Sheets.{Keeps, SheetWords, WordCut, WordThere, CutBy, passes_at, passes_below};
 
 use crate::index::*;
+use crate::sheet::*;
 use cells::walk::*;
 
-// Word w of sheet s, which position p of its index names, gives way to what is kept of it. Whether a row was cut.
-fn keep_word(
-    s: usize,
+// The word at position p of the index of the sheet, cut to what `keep` gives for it. Whether a row was cut.
+fn cut_word<F: Fn(usize, u64) -> u64>(
+    sheet: &Sheet<'_>,
     p: usize,
-    w: usize,
-    word: u64,
-    keep: u64,
-    valid: &mut [u64; 64],
-    index: &mut [u8; 64],
-    nonzero: &mut [u8; 8],
+    keep: &F,
+    rows: &mut Rows,
 ) -> bool
-    requires { (s < 8) × (w < 8) × IndexOf s valid.old index.old nonzero.old × Sized valid.old index.old nonzero.old × (p < get_or nonzero.old s 0) × (w ≡ of_sheet index.old s p) × (word ≡ of_sheet valid.old s w) }
-    ensures { ((test : ℕ → Bool) → WordKept test w word keep → WordCut test s p valid.old index.old nonzero.old valid.new index.new nonzero.new) × (result ≡ false → valid.new ≡ valid.old) }
+    requires { SheetWords sheet.now.book.now sheet.now.number rows.old.valid rows.old.index rows.old.nonzero × (p < get_or rows.old.nonzero sheet.now.number 0) × ((w x : ℕ) → WordThere sheet.now.book.now sheet.now.begin w x → F.pre keep.now w x) }
+    ensures { ((test : ℕ → Bool) → Keeps sheet.now.book.now sheet.now.begin (F.post keep.now) test → WordCut test sheet.now.number p rows.old.valid rows.old.index rows.old.nonzero rows.new.valid rows.new.index rows.new.nonzero) × (result ≡ false → rows.new.valid ≡ rows.old.valid) }
 {
-    if keep == word {
+    let (w, word) = rows.word(sheet.number, p);
+    let left = keep(w, word);
+    if left == word {
         return false;
     }
-    valid[8 * s + w] = keep;
-    if keep == 0 {
-        drop_word(index, nonzero, s, p);
-        return true;
+    rows.valid[8 * sheet.number + w] = left;
+    if left == 0 {
+        rows.drop_word(sheet.number, p);
     }
     true
 }
 
-// The word at position p of the index of sheet s, cut to the rows whose cell at place j is in d. Whether a row was cut.
-fn cut_word(
-    book: &[u8],
-    begin: usize,
-    s: usize,
-    p: usize,
-    j: usize,
-    d: u32,
-    valid: &mut [u64; 64],
-    index: &mut [u8; 64],
-    nonzero: &mut [u8; 8],
-) -> bool
-    requires { AtSheet book.now begin s × (j < 4) × SheetWords book.now s valid.old index.old nonzero.old × (p < get_or nonzero.old s 0) }
-    ensures { WordCut (value_in book.now s j d) s p valid.old index.old nonzero.old valid.new index.new nonzero.new × (result ≡ false → valid.new ≡ valid.old) }
-{
-    let w = word_number(index, s, p);
-    let word = valid[8 * s + w];
-    let keep = kept(book, begin, w, j, d, word);
-    keep_word(s, p, w, word, keep, valid, index, nonzero)
-}
-
-// The rows of sheet s cut to those whose cell at place j is in d. Whether a row was cut.
-fn cut(
-    book: &[u8],
-    begin: usize,
-    s: usize,
-    j: usize,
-    d: u32,
-    valid: &mut [u64; 64],
-    index: &mut [u8; 64],
-    nonzero: &mut [u8; 8],
-) -> bool
-    requires { AtSheet book.now begin s × (j < 4) × SheetWords book.now s valid.old index.old nonzero.old }
-    ensures { CutBy (value_in book.now s j d) s valid.old index.old nonzero.old valid.new index.new nonzero.new × (result ≡ false → valid.new ≡ valid.old) }
+// The rows of the sheet cut, word by word, to what `keep` gives for a word by its number and its rows. Whether a row was cut. Each closure has a copy of its own,
+// so pass 1 stays in one place, and a compiler sees it whole.
+fn cut<F: Fn(usize, u64) -> u64>(sheet: &Sheet<'_>, keep: F, rows: &mut Rows) -> bool
+    requires { SheetWords sheet.now.book.now sheet.now.number rows.old.valid rows.old.index rows.old.nonzero × ((w x : ℕ) → WordThere sheet.now.book.now sheet.now.begin w x → F.pre keep w x) × ((test : ℕ → Bool) × Keeps sheet.now.book.now sheet.now.begin (F.post keep) test) }
+    ensures { ((test : ℕ → Bool) → Keeps sheet.now.book.now sheet.now.begin (F.post keep) test → CutBy test sheet.now.number rows.old.valid rows.old.index rows.old.nonzero rows.new.valid rows.new.index rows.new.nonzero) × (result ≡ false → rows.new.valid ≡ rows.old.valid) }
 {
     let mut any = false;
-    let mut p = nonzero_words(nonzero, s);
-    while 0 < p {
-        p -= 1;
-        any = any | cut_word(book, begin, s, p, j, d, valid, index, nonzero);
+    for p in (0..rows.nonzero_words(sheet.number)).rev() {
+        any |= cut_word(sheet, p, &keep, rows);
     }
     any
 }
 
 // The same by the column of place j, if it is in `changed`.
-fn cut_place(
-    book: &[u8],
-    begin: usize,
-    s: usize,
-    j: usize,
-    changed: u32,
-    dom: &[u32; 16],
-    valid: &mut [u64; 64],
-    index: &mut [u8; 64],
-    nonzero: &mut [u8; 8],
-) -> bool
-    requires { AtSheet book.now begin s × (j < width_of book.now s) × SheetWords book.now s valid.old index.old nonzero.old }
-    ensures { CutBy (passes_at book.now s changed dom.now j) s valid.old index.old nonzero.old valid.new index.new nonzero.new × (result ≡ false → valid.new ≡ valid.old) }
+fn cut_place(sheet: &Sheet<'_>, j: usize, changed: u32, dom: &[u32; 16], rows: &mut Rows) -> bool
+    requires { (j < width_of sheet.now.book.now sheet.now.number) × SheetWords sheet.now.book.now sheet.now.number rows.old.valid rows.old.index rows.old.nonzero }
+    ensures { CutBy (passes_at sheet.now.book.now sheet.now.number changed dom.now j) sheet.now.number rows.old.valid rows.old.index rows.old.nonzero rows.new.valid rows.new.index rows.new.nonzero × (result ≡ false → rows.new.valid ≡ rows.old.valid) }
 {
-    let c = heads::head::column(book, s, j);
+    let c = sheet.column(j);
     if (changed >> c) % 2 == 1 {
-        return cut(book, begin, s, j, dom[c], valid, index, nonzero);
+        let d = dom[c];
+        return cut(
+            sheet,
+            |w, word| kept(sheet.book, sheet.begin, w, j, d, word),
+            rows,
+        );
     }
     false
 }
 
-// The rows of sheet s cut by each of its columns in `changed`. Whether a row was cut, or `opening`.
+// The rows of the sheet cut by each of its columns in `changed`. Whether a row was cut, or `opening`.
 pub fn cut_places(
-    book: &[u8],
-    begin: usize,
-    s: usize,
+    sheet: &Sheet<'_>,
     changed: u32,
     opening: bool,
     dom: &[u32; 16],
-    valid: &mut [u64; 64],
-    index: &mut [u8; 64],
-    nonzero: &mut [u8; 8],
+    rows: &mut Rows,
 ) -> bool
-    requires { AtSheet book.now begin s × SheetWords book.now s valid.old index.old nonzero.old }
-    ensures { CutBy (passes_below book.now s changed dom.now (width_of book.now s)) s valid.old index.old nonzero.old valid.new index.new nonzero.new × (result ≡ false → (opening ≡ false) × (valid.new ≡ valid.old)) }
+    requires { SheetWords sheet.now.book.now sheet.now.number rows.old.valid rows.old.index rows.old.nonzero }
+    ensures { CutBy (passes_below sheet.now.book.now sheet.now.number changed dom.now (width_of sheet.now.book.now sheet.now.number)) sheet.now.number rows.old.valid rows.old.index rows.old.nonzero rows.new.valid rows.new.index rows.new.nonzero × (result ≡ false → (opening ≡ false) × (rows.new.valid ≡ rows.old.valid)) }
 {
-    let k = heads::head::width(book, s);
     let mut any = opening;
-    let mut j: usize = 0;
-    while j < k {
-        any = any | cut_place(book, begin, s, j, changed, dom, valid, index, nonzero);
-        j += 1;
+    for j in 0..sheet.width() {
+        any |= cut_place(sheet, j, changed, dom, rows);
     }
     any
 }
 
-// ---- all places at once
-
-// The word at position p of the index of sheet s, cut to the rows with every cell in its set.
-fn cut_word_inside(
-    book: &[u8],
-    begin: usize,
-    s: usize,
-    p: usize,
-    x: &[u32; 4],
-    valid: &mut [u64; 64],
-    index: &mut [u8; 64],
-    nonzero: &mut [u8; 8],
-)
-    requires { AtSheet book.now begin s × SheetWords book.now s valid.old index.old nonzero.old × (p < get_or nonzero.old s 0) }
-    ensures { WordCut (row_inside book.now begin x.now) s p valid.old index.old nonzero.old valid.new index.new nonzero.new }
+// The rows of the sheet cut to those with every cell in its set, at all places at once.
+pub fn cut_inside(sheet: &Sheet<'_>, x: &[u32; 4], rows: &mut Rows)
+    requires { SheetWords sheet.now.book.now sheet.now.number rows.old.valid rows.old.index rows.old.nonzero }
+    ensures { CutBy (row_inside sheet.now.book.now sheet.now.begin x.now) sheet.now.number rows.old.valid rows.old.index rows.old.nonzero rows.new.valid rows.new.index rows.new.nonzero }
 {
-    let w = word_number(index, s, p);
-    let word = valid[8 * s + w];
-    let keep = kept_inside(book, begin, w, x, word);
-    keep_word(s, p, w, word, keep, valid, index, nonzero);
-}
-
-// The rows of sheet s cut to those with every cell in its set. It is called in another place than pass 1, so that pass 1 stays in one, and a compiler sees it whole.
-pub fn cut_inside(
-    book: &[u8],
-    begin: usize,
-    s: usize,
-    x: &[u32; 4],
-    valid: &mut [u64; 64],
-    index: &mut [u8; 64],
-    nonzero: &mut [u8; 8],
-)
-    requires { AtSheet book.now begin s × SheetWords book.now s valid.old index.old nonzero.old }
-    ensures { CutBy (row_inside book.now begin x.now) s valid.old index.old nonzero.old valid.new index.new nonzero.new }
-{
-    let mut p = nonzero_words(nonzero, s);
-    while 0 < p {
-        p -= 1;
-        cut_word_inside(book, begin, s, p, x, valid, index, nonzero);
-    }
+    cut(
+        sheet,
+        |w, word| kept_inside(sheet.book, sheet.begin, w, x, word),
+        rows,
+    );
 }

@@ -1,16 +1,13 @@
 use mathlib.Core.Logic.{inl, inr}
-use borrow.Author.Rules.{rules}
+use Rattle.sessions.proofs.Readings.{read_as, read_refused}
 use Rattle.shown.proofs.Shows.{told_refused, told_same}
 use Rattle.shown.proofs.told_after.Goals as goal
 
-pub returns-then-refused-gt0 : goal.returns-then-refused-gt0
-returns-then-refused-gt0 c = told_refused c.args.order.now (search rules)
+pub returns-in-Ok-Mark : goal.returns-in-Ok-Mark
+returns-in-Ok-Mark c = λ o p. let a = c.in-Ok-Mark in told_same o (inl (read_as o a.is (rw a.is at a.field-0-is) p))
 
-pub returns-then-kind-eq2 : goal.returns-then-kind-eq2
-returns-then-kind-eq2 c = told_same c.args.order.now (inl c.if-kind-eq2.true)
+pub returns-in-Ok-Finish : goal.returns-in-Ok-Finish
+returns-in-Ok-Finish c = λ o p. let a = c.in-Ok-Finish in let q = read_as o a.is (rw a.is at a.field-0-is) p in told_same o (inr q.0)
 
-pub returns-then-kind-eq4 : goal.returns-then-kind-eq4
-returns-then-kind-eq4 c = told_same c.args.order.now (inr c.if-kind-eq4.true)
-
-pub returns : goal.returns
-returns c = λ L e h s. c.summarise.ensures _ s
+pub returns-in-Err : goal.returns-in-Err
+returns-in-Err c = λ o p. told_refused o (read_refused c.in-Err.is)

@@ -1,36 +1,32 @@
 use native.Mathlib.Nat.{le_refl}
 use native.Mathlib.Omega.{arith}
 use lib.ListN.{get_or}
+use Rattle.tally.proofs.Tallies.{places_fit}
 use Rattle.words.proofs.Indexes.{rows_most}
 use Rattle.words.proofs.Places.{eight, width_most}
 use Rattle.looks.proofs.Counts.{none_above, unfilled_counted, unfilled_few, unfilled_supported}
 use Rattle.looks.proofs.count.unforbidden.Goals as goal
 
-pub nonzero_words-n-requires : goal.nonzero_words-n-requires
-nonzero_words-n-requires c = eight c.requires.0
-
 pub returns-then-fewer : goal.returns-then-fewer
-returns-then-fewer c = let p = c.requires in
-    let h = p.1 in
-    unfilled_supported p.0 p.2 (width_most p.0).1 h
-    (unfilled_few h.sized p.5 c.choices_of.ensures (rw c.nonzero_words-n.ensures.0 (rows_most h.sized c.args.s (get_or c.args.nonzero.now c.args.s 0))) (c.fewer.ensures c.if-fewer.true) c.all_left.ensures)
+returns-then-fewer c = let a = c.args.sheet.now.at in
+    let h = c.requires.0 in
+    unfilled_supported a c.requires.1 (width_most a).1 h
+    (unfilled_few h.sized (record { size = c.told-x; fits = c.fits-x }) c.choices_of-others.ensures (rw c.nonzero_words-n.ensures.0 (rows_most h.sized c.args.sheet.now.number (get_or c.args.rows.now.nonzero c.args.sheet.now.number 0))) (c.fewer.ensures c.if-fewer.true))
 
-pub set_rows-rows-requires : goal.set_rows-rows-requires
-set_rows-rows-requires c = let p = c.requires in
-    (eight p.0, p.1.sized, p.1.indexed, omega (arith, c.nonzero_words-n.ensures.0))
+pub set_rows-all-requires : goal.set_rows-all-requires
+set_rows-all-requires c = (eight c.args.sheet.now.at, c.requires.0.indexed, omega (arith, c.nonzero_words-n.ensures.0))
 
 pub returns-then-fewer-2 : goal.returns-then-fewer-2
-returns-then-fewer-2 c = let p = c.requires in
-    let h = p.1 in
-    unfilled_supported p.0 p.2 (width_most p.0).1 h
-    (unfilled_few h.sized p.5 c.choices_of.ensures (rw (c.set_rows-rows.ensures, c.nonzero_words-n.ensures.0) (le_refl _)) (c.fewer-2.ensures c.if-fewer-2.true) c.all_left-then-fewer-2.ensures)
+returns-then-fewer-2 c = let a = c.args.sheet.now.at in
+    let h = c.requires.0 in
+    unfilled_supported a c.requires.1 (width_most a).1 h
+    (unfilled_few h.sized (record { size = c.told-x; fits = c.fits-x }) c.choices_of-others.ensures (rw (c.set_rows-all.ensures, c.nonzero_words-n.ensures.0) (le_refl _)) (c.fewer-2.ensures c.if-fewer-2.true))
 
 pub places_left-requires : goal.places_left-requires
-places_left-requires c = let p = c.requires in
-    (none_above p.1.sized c.count_sheet.ensures c.set_rows-rows.ensures, p.5, p.4)
+places_left-requires c = none_above c.requires.0.sized c.count_sheet-counts.ensures c.set_rows-all.ensures
 
 pub returns : goal.returns
-returns c = let p = c.requires in
-    let h = p.1 in
-    unfilled_supported p.0 p.2 p.3 h
-    (unfilled_counted h.sized p.5 c.args.k (rw c.nonzero_words-n.ensures.0 at c.count_sheet.ensures) c.choices_of.ensures c.places_left.ensures)
+returns c = let a = c.args.sheet.now.at in
+    let h = c.requires.0 in
+    unfilled_supported a c.requires.1 ((places_fit _).1 (width_most a).1) h
+    (unfilled_counted h.sized (record { size = c.told-x; fits = c.fits-x }) _ (rw c.nonzero_words-n.ensures.0 at c.count_sheet-counts.ensures) c.choices_of-others.ensures c.places_left.ensures)

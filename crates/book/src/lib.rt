@@ -15,11 +15,11 @@ pub mod fault;
 pub mod refused;
 pub mod rise;
 
-ghost use Rattle.std.specs.Prelude.{◌≡◌, IfErr, IfOk};
+ghost use Rattle.std.specs.Prelude.{◌≡◌, IfErr, IfOk, OnOk};
 ghost use Rattle.heads.specs.Blocks.{RightChecks, RightLength};
 ghost use Rattle.heads.specs.Heads.{RightHead};
-ghost use Rattle.book.specs.Refusals.{refusal_number, verdict_of};
-ghost use Rattle.book.specs.Verdicts.{check_result, verdict};
+ghost use Rattle.book.specs.Refusals.{verdict_of};
+ghost use Rattle.book.specs.Verdicts.{Accepted, verdict};
 
 use crate::fault::*;
 use crate::rise::*;
@@ -32,7 +32,7 @@ use rows::row::*;
 // Refusal 2, unless the check of each block is right.
 fn check_blocks(bytes: &[u8]) -> Result<(), Refusal>
     requires { RightLength bytes.now }
-    ensures right { IfOk result (λ _. RightChecks bytes.now) }
+    ensures right { OnOk result (RightChecks bytes.now) }
     ensures wrong { IfErr result (λ e. verdict bytes.now ≡ verdict_of e) }
 {
     match first_wrong_check(bytes, bytes.len() / 512) {
@@ -45,7 +45,7 @@ fn check_blocks(bytes: &[u8]) -> Result<(), Refusal>
 fn check_head(bytes: &[u8]) -> Result<(), Refusal>
     requires length { RightLength bytes.now }
     requires checks { RightChecks bytes.now }
-    ensures right { IfOk result (λ _. RightHead bytes.now) }
+    ensures right { OnOk result (RightHead bytes.now) }
     ensures wrong { IfErr result (λ e. verdict bytes.now ≡ verdict_of e) }
 {
     match Head::of(bytes).first_wrong_field() {
@@ -69,11 +69,20 @@ fn check_count<'a>(bytes: &'a [u8]) -> Result<Whole<'a>, Refusal>
     Ok(Whole { bytes })
 }
 
+// Refusal 5 or 6 for the first fault of the rows, or 7 for the first row that does not rise; where there is neither, the book is accepted.
+fn check_rows(book: &Whole<'_>) -> Result<(), Refusal>
+    requires { RightChecks book.now.bytes.now }
+    ensures right { OnOk result (Accepted book.now.bytes.now) }
+    ensures wrong { IfErr result (λ e. verdict book.now.bytes.now ≡ verdict_of e) }
+{
+    check_faults(book)?;
+    check_falls(book)
+}
+
 // Checks a book: the lowest refusal that applies, with its place, or the book.
 pub fn check<'a>(bytes: &'a [u8]) -> Result<Book<'a>, Refusal>
     ensures accepted { IfOk result (λ book. book.bytes.now ≡ bytes.now) }
     ensures refused { IfErr result (λ e. verdict bytes.now ≡ verdict_of e) }
-    ensures number { IfErr result (λ e. check_result bytes.now ≡ refusal_number e) }
 {
     if wrong_length(bytes) {
         return Err(Refusal::Length);
@@ -81,7 +90,6 @@ pub fn check<'a>(bytes: &'a [u8]) -> Result<Book<'a>, Refusal>
     check_blocks(bytes)?;
     check_head(bytes)?;
     let whole = check_count(bytes)?;
-    check_faults(&whole)?;
-    check_falls(&whole)?;
+    check_rows(&whole)?;
     Ok(Book { bytes })
 }

@@ -2,23 +2,25 @@
 -- one row
 use mathlib.Core.Path.{◌∙◌, ◌≡◌, ap, refl, sym}
 use mathlib.Core.Bool.{Bool, ◌&&◌, ◌||◌, false, false≢true, not, or-false, true}
-use mathlib.Core.Logic.{◌⊎◌, inl, inr, ⊎_elim}
-use mathlib.Core.List.{List, [], ◌∷◌}
-use Prim.Native.Nat.{◌+◌, ◌-◌, ◌<◌, ◌^◌, ◌≤◌, suc, zero, ℕ}
+use mathlib.Core.Logic.{◌⊎◌, inl, inr}
+use mathlib.Core.List.{List}
+use Prim.Native.Nat.{◌%◌, ◌+◌, ◌-◌, ◌<◌, ◌^◌, ◌≤◌, ℕ}
 use native.Mathlib.Omega.{arith}
 use lib.Arith.{lt_of_le-ne}
 use lib.Bits.{bit_or, or_lt}
 use lib.Count.{trailing_le, count_trailing_zeros}
 use lib.Dec.{eqb, ltb}
-use lib.ListN.{get_or, set}
+use lib.ListN.{get_or, length-set, set}
+use lib.Seq.{get_or-set_other, get_or-set_same}
 use borrow.Author.Tests.{eq-eqb, eqb-false, eqb-true, le-ltb, lt-ltb, ne_eqb, not-false}
 use Rattle.model.specs.Masks.{Cleared, bit}
 use Rattle.model.proofs.Masks.{bit_of_zero, bit-or, bit_pow, bit_pow_only, lowest_under, ones64}
 use Rattle.model.proofs.Tests.{and_true, below, either, or_e, or_l, or_r}
+use Rattle.fields.specs.Bytes.{byte_at}
 use Rattle.counters.specs.Counters.{PastRows}
-use Rattle.cells.specs.Cells.{GatheredOf, Joined, RunOf, SmallSets, four_of}
+use Rattle.cells.specs.Cells.{GatheredOf, RunOf, SmallSets}
 use Rattle.counters.proofs.Ones.{complement}
-use Rattle.cells.proofs.Walks.{Part, four_all, part_cleared, split}
+use Rattle.cells.proofs.Walks.{Part, part_cleared, split}
 
 one_row : (cell : ℕ → ℕ → ℕ) (t : ℕ) {g h : List ℕ} → ((j : ℕ) → j < 4 → get_or h j 0 ≡ bit_or (get_or g j 0) (2 ^ cell t j)) → GatheredOf cell (λ k. eqb k t) g h
 one_row cell t {g} {h} e = record {
@@ -32,6 +34,32 @@ one_row cell t {g} {h} e = record {
     go : (j v : ℕ) → (bit v (get_or g j 0) ≡ true) ⊎ (bit v (2 ^ cell t j) ≡ true) → (bit v (get_or g j 0) ≡ true) ⊎ ((k : ℕ) × (eqb k t ≡ true) × (cell k j ≡ v))
     go j v (inl x) = inl x
     go j v (inr x) = inr (t, eq-eqb t t refl, sym (bit_pow_only (cell t j) v x))
+
+-- the values of a row, place by place: the first n are added, and the sets of the other places are as they were
+pub record AddedTo (n : ℕ) (b : List ℕ) (at : ℕ) (f g : List ℕ) : Type 0 where
+  pub small : SmallSets g
+  pub done : (j : ℕ) → j < n → get_or g j 0 ≡ bit_or (get_or f j 0) (2 ^ (byte_at b (at + j) % 32))
+  pub left : (j : ℕ) → n ≤ j → get_or g j 0 ≡ get_or f j 0
+
+pub none_added : (b : List ℕ) (at : ℕ) {f : List ℕ} → SmallSets f → AddedTo 0 b at f f
+none_added b at s = record { small = s; done = λ j l. absurd (omega arith); left = λ j l. refl }
+
+pub place_added : {n : ℕ} {b : List ℕ} {at : ℕ} {f g : List ℕ} → AddedTo n b at f g → n < 4 → {v : ℕ} → v < 2 ^ 32 → v ≡ 2 ^ (byte_at b (at + n) % 32)
+    → AddedTo (n + 1) b at f (set g n (bit_or (get_or g n 0) v))
+place_added {n} {b} {at} {f} {g} h l {v} fits e = record {
+  small = record {
+    size = length-set g n _ ∙ h.small.size;
+    fits = λ j. split j n (λ z. rw (z, same) (or_lt 32 (get_or g n 0) v (h.small.fits n) fits)) (λ z. rw (other j z) (h.small.fits j));
+  };
+  done = λ j m. split j n (λ z. rw (z, same) (rw (e, h.left n (omega arith)) refl)) (λ z. other j z ∙ h.done j (omega (arith, z)));
+  left = λ j m. other j (λ z. omega arith) ∙ h.left j (omega arith);
+}
+  where
+    same : get_or (set g n (bit_or (get_or g n 0) v)) n 0 ≡ bit_or (get_or g n 0) v
+    same = get_or-set_same g n _ 0 (omega (arith, h.small.size))
+
+    other : (j : ℕ) → (j ≡ n → ⊥) → get_or (set g n (bit_or (get_or g n 0) v)) j 0 ≡ get_or g j 0
+    other j z = get_or-set_other g n j _ 0 z
 
 module _ (cell : ℕ → ℕ → ℕ) {f : List ℕ} where
   pub of_none : (passes : ℕ → Bool) → ((k : ℕ) → passes k ≡ false) → GatheredOf cell passes f f
@@ -48,19 +76,6 @@ module _ (cell : ℕ → ℕ → ℕ) {f : List ℕ} where
           → (bit v (get_or f j 0) ≡ true) ⊎ ((k : ℕ) × (passes' k ≡ true) × (cell k j ≡ v))
       go j v (inl p) = inl p
       go j v (inr (k, p, q)) = inr (k, sym (e k) ∙ p, q)
-
-  pub of_cells : (cell' : ℕ → ℕ → ℕ) {passes : ℕ → Bool} {g : List ℕ} → ((k j : ℕ) → passes k ≡ true → cell k j ≡ cell' k j)
-      → GatheredOf cell passes f g → GatheredOf cell' passes f g
-  of_cells cell' {passes} {g} e h = record {
-    old = h.old;
-    new = λ j k l p. rw (← e k j p) (h.new j k l p);
-    sound = λ j v l p. go j v (h.sound j v l p);
-  }
-    where
-      go : (j v : ℕ) → (bit v (get_or f j 0) ≡ true) ⊎ ((k : ℕ) × (passes k ≡ true) × (cell k j ≡ v))
-          → (bit v (get_or f j 0) ≡ true) ⊎ ((k : ℕ) × (passes k ≡ true) × (cell' k j ≡ v))
-      go j v (inl p) = inl p
-      go j v (inr (k, p, q)) = inr (k, p, sym (e k j p) ∙ q)
 
   -- one part of the rows, and then the other
   pub of_join : {passes more all : ℕ → Bool} {g h : List ℕ} → ((k : ℕ) → all k ≡ (passes k || more k))
@@ -85,62 +100,10 @@ module _ (cell : ℕ → ℕ → ℕ) {f : List ℕ} where
       second j v l (inl x) = begin j v (p.sound j v l x)
       second j v l (inr (k, x, y)) = inr (k, e k ∙ or_r (passes k) (more k) x, y)
 
-  -- one row more, by the code's four sets
-  pub of_row : {passes all : ℕ → Bool} (t g0 g1 g2 g3 h0 h1 h2 h3 : ℕ) → ((k : ℕ) → all k ≡ (passes k || eqb k t))
-      → GatheredOf cell passes f (four_of g0 g1 g2 g3) → h0 ≡ bit_or g0 (2 ^ cell t 0) → h1 ≡ bit_or g1 (2 ^ cell t 1) → h2 ≡ bit_or g2 (2 ^ cell t 2)
-      → h3 ≡ bit_or g3 (2 ^ cell t 3) → GatheredOf cell all f (four_of h0 h1 h2 h3)
-  of_row t g0 g1 g2 g3 h0 h1 h2 h3 e p e0 e1 e2 e3 =
-      of_join e p
-      (one_row cell t (four_all (λ j. get_or (four_of h0 h1 h2 h3) j 0 ≡ bit_or (get_or (four_of g0 g1 g2 g3) j 0) (2 ^ cell t j)) e0 e1 e2 e3))
-
--- what was gathered from nothing, added to sets
-pub of_added : {cell : ℕ → ℕ → ℕ} {passes : ℕ → Bool} {f g h : List ℕ} → GatheredOf cell passes (four_of 0 0 0 0) g → Joined f g h → GatheredOf cell passes f h
-of_added {cell} {passes} {f} {g} {h} p q =
-    record {
-      old = λ j v l e. into j v l (or_l (bit v (get_or f j 0)) (bit v (get_or g j 0)) e);
-      new = λ j k l e. into j (cell k j) l (or_r (bit (cell k j) (get_or f j 0)) (bit (cell k j) (get_or g j 0)) (p.new j k l e));
-      sound = λ j v l e. go j v l (or_e (bit v (get_or f j 0)) (bit v (get_or g j 0)) (sym (bit-or v (get_or f j 0) (get_or g j 0)) ∙ ap (bit v) (sym (q.at j l)) ∙ e));
-    }
-  where
-    into : (j v : ℕ) → j < 4 → (bit v (get_or f j 0) || bit v (get_or g j 0)) ≡ true → bit v (get_or h j 0) ≡ true
-    into j v l e = ap (bit v) (q.at j l) ∙ bit-or v (get_or f j 0) (get_or g j 0) ∙ e
-
-    nothing : (j v : ℕ) → j < 4 → bit v (get_or (four_of 0 0 0 0) j 0) ≡ true → ⊥
-    nothing j v l e =
-        false≢true (sym (four_all (λ j. bit v (get_or (four_of 0 0 0 0) j 0) ≡ false) (bit_of_zero v) (bit_of_zero v) (bit_of_zero v) (bit_of_zero v) j l) ∙ e)
-
-    go : (j v : ℕ) → j < 4 → (bit v (get_or f j 0) ≡ true) ⊎ (bit v (get_or g j 0) ≡ true)
-        → (bit v (get_or f j 0) ≡ true) ⊎ ((k : ℕ) × (passes k ≡ true) × (cell k j ≡ v))
-    go j v l (inl e) = inl e
-    go j v l (inr e) = ⊎_elim (λ z. absurd (nothing j v l z)) (λ r. inr r) (p.sound j v l e)
-
--- the code's sets, written place by place
-abbrev pub added_to : List ℕ → ℕ → ℕ → ℕ → ℕ → List ℕ
-added_to f g0 g1 g2 g3 =
-    let p = set f 0 (bit_or (get_or f 0 0) g0) in
-    let q = set p 1 (bit_or (get_or p 1 0) g1) in
-    let r = set q 2 (bit_or (get_or q 2 0) g2) in
-    set r 3 (bit_or (get_or r 3 0) g3)
-
-pub sets_joined : (f : List ℕ) (g0 g1 g2 g3 : ℕ) → SmallSets f → ((g0 < 2 ^ 32) × (g1 < 2 ^ 32) × (g2 < 2 ^ 32) × (g3 < 2 ^ 32))
-    → Joined f (four_of g0 g1 g2 g3) (added_to f g0 g1 g2 g3)
-sets_joined [] g0 g1 g2 g3 s l = absurd (omega (arith, s.size))
-sets_joined (w ∷ []) g0 g1 g2 g3 s l = absurd (omega (arith, s.size))
-sets_joined (w ∷ x ∷ []) g0 g1 g2 g3 s l = absurd (omega (arith, s.size))
-sets_joined (w ∷ x ∷ y ∷ []) g0 g1 g2 g3 s l = absurd (omega (arith, s.size))
-sets_joined (w ∷ x ∷ y ∷ z ∷ (u ∷ f)) g0 g1 g2 g3 s l = absurd (omega (arith, s.size))
-sets_joined (w ∷ x ∷ y ∷ z ∷ []) g0 g1 g2 g3 s l =
-    record {
-      small = record { size = refl; fits = few };
-      at = four_all (λ j. get_or (four_of (bit_or w g0) (bit_or x g1) (bit_or y g2) (bit_or z g3)) j 0 ≡ bit_or (get_or (four_of w x y z) j 0) (get_or (four_of g0 g1 g2 g3) j 0)) refl refl refl refl;
-    }
-  where
-    few : (j : ℕ) → get_or (four_of (bit_or w g0) (bit_or x g1) (bit_or y g2) (bit_or z g3)) j 0 < 2 ^ 32
-    few zero = or_lt 32 w g0 (s.fits 0) l.0
-    few (suc zero) = or_lt 32 x g1 (s.fits 1) l.1
-    few (suc (suc zero)) = or_lt 32 y g2 (s.fits 2) l.2
-    few (suc (suc (suc zero))) = or_lt 32 z g3 (s.fits 3) l.3
-    few (suc (suc (suc (suc j)))) = omega arith
+  -- one row more
+  pub of_row : {passes all : ℕ → Bool} (t : ℕ) {g h : List ℕ} → ((k : ℕ) → all k ≡ (passes k || eqb k t))
+      → GatheredOf cell passes f g → ((j : ℕ) → j < 4 → get_or h j 0 ≡ bit_or (get_or g j 0) (2 ^ cell t j)) → GatheredOf cell all f h
+  of_row t e p q = of_join e p (one_row cell t q)
 
 -- the rows of the word that are no longer left
 unfoldable pub passed : ℕ → ℕ → ℕ → Bool
@@ -166,11 +129,9 @@ passed_turn {word} {left} {rest} {t} p c k =
     (λ n. rw (c.rest k n, ne_eqb k t n) (sym (or-false (bit k word && not (bit k left)))))
 
 -- the lowest row that is left, gathered
-pub of_turn : (cell : ℕ → ℕ → ℕ) {f : List ℕ} {word left rest t : ℕ} (g0 g1 g2 g3 h0 h1 h2 h3 : ℕ) → Part left word → Cleared left rest t
-    → GatheredOf cell (passed word left) f (four_of g0 g1 g2 g3) → h0 ≡ bit_or g0 (2 ^ cell t 0) → h1 ≡ bit_or g1 (2 ^ cell t 1) → h2 ≡ bit_or g2 (2 ^ cell t 2)
-    → h3 ≡ bit_or g3 (2 ^ cell t 3) → GatheredOf cell (passed word rest) f (four_of h0 h1 h2 h3) × Part rest word
-of_turn cell {f} {word} {left} {rest} {t} g0 g1 g2 g3 h0 h1 h2 h3 p c q e0 e1 e2 e3 =
-    (of_row cell t g0 g1 g2 g3 h0 h1 h2 h3 (passed_turn p c) q e0 e1 e2 e3, part_cleared c p)
+pub of_turn : (cell : ℕ → ℕ → ℕ) {f g h : List ℕ} {word left rest t : ℕ} → Part left word → Cleared left rest t → GatheredOf cell (passed word left) f g
+    → ((j : ℕ) → j < 4 → get_or h j 0 ≡ bit_or (get_or g j 0) (2 ^ cell t j)) → GatheredOf cell (passed word rest) f h × Part rest word
+of_turn cell {t = t} p c q e = (of_row cell t (passed_turn p c) q e, part_cleared c p)
 
 -- none is left: every row of the word was
 pub of_all : (cell : ℕ → ℕ → ℕ) {f g : List ℕ} (word : ℕ) {left : ℕ} → left ≡ 0 → GatheredOf cell (passed word left) f g → GatheredOf cell (λ k. bit k word) f g

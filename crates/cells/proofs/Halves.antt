@@ -1,6 +1,6 @@
 -- Laws of pass 1 over rows that stand one after the other: of 64 places as two halves of 32, of a row read as one number, and of one row more. Assumes nothing.
 use mathlib.Core.Path.{◌∙◌, ◌≡◌, ap, refl, sym}
-use mathlib.Core.Bool.{Bool, ◌&&◌, ◌||◌, cond, false, false≢true, or-false, true}
+use mathlib.Core.Bool.{Bool, ◌&&◌, ◌||◌, cond, false, or-false, true}
 use mathlib.Core.Logic.{◌⊎◌, inl, inr}
 use mathlib.Core.List.{List}
 use Prim.Native.Nat.{◌%◌, ◌*◌, ◌+◌, ◌-◌, ◌/◌, ◌<◌, ◌^◌, ◌≤◌, suc, zero, ℕ}
@@ -9,11 +9,11 @@ use native.Mathlib.Omega.{arith}
 use lib.Bits.{and_le_l, bit_and, bit_or}
 use lib.Dec.{eqb, ltb}
 use lib.ListN.{get_or}
-use borrow.Author.Tests.{eq-eqb, le-ltb, lt-ltb}
+use borrow.Author.Tests.{le-ltb, lt-ltb}
 use Rattle.model.specs.Masks.{bit}
 use Rattle.model.specs.Tests.{all_below}
 use Rattle.model.proofs.Masks.{bit-and, bit_of_zero, bit-or, bit_pow, bit_pow_only, bit_pow_other, bit_suc, bit_zero, some_bit}
-use Rattle.model.proofs.Tests.{all_below_e, all_below_same, and_l, and_r, and_true, below, either, or_r, positive}
+use Rattle.model.proofs.Tests.{all_below_last, all_below_same, and_l, and_r, and_true, below, or_r, positive}
 use Rattle.fields.specs.Bytes.{byte_at, word_at}
 use Rattle.counters.specs.Counters.{cell_place}
 use Rattle.cells.specs.Cells.{KeptBy, KeptRun, cell_at, row_inside}
@@ -73,23 +73,10 @@ pub held_digit : (d cell h : ℕ) → h ≡ d / 2 ^ (cell % 32) % 2 → eqb h 1 
 unfolding bit
 held_digit d cell h e = ap (λ (x : ℕ). eqb x 1) e
 
--- a digit that is 0 says that it isn't; one such cell is enough, and all four cells are all of a row
-pub held_none : {h : ℕ} {t : Bool} → eqb h 1 ≡ t → h ≡ 0 → t ≡ false
-held_none e z = sym e ∙ ap (λ (x : ℕ). eqb x 1) z
-
-pub held_some : {h : ℕ} {t : Bool} → h < 2 → eqb h 1 ≡ t → (h ≡ 0 → ⊥) → t ≡ true
-held_some {h} l e n = sym e ∙ eq-eqb h 1 (omega (arith, n))
-
-pub one_not : (f : ℕ → Bool) (j : ℕ) → j < 4 → f j ≡ false → false ≡ all_below 4 f
-one_not f j l e = sym (go (either (all_below 4 f)))
-  where
-    go : (all_below 4 f ≡ true) ⊎ (all_below 4 f ≡ false) → all_below 4 f ≡ false
-    go (inl t) = absurd (false≢true (sym e ∙ all_below_e 4 f t j l))
-    go (inr t) = t
-
-pub last_of_four : (f : ℕ → Bool) → f 0 ≡ true → f 1 ≡ true → f 2 ≡ true → f 3 ≡ all_below 4 f
+-- the tests of the four cells of a row
+pub all_of_four : (f : ℕ → Bool) {p q r s : Bool} → p ≡ f 0 → q ≡ f 1 → r ≡ f 2 → s ≡ f 3 → (p && q && r && s) ≡ all_below 4 f
 unfolding all_below
-last_of_four f p q r = rw (p, q, r) (sym (and_true (f 3)))
+all_of_four f d e g h = rw (d, e, g, h, all_below_last 3 f, all_below_last 2 f, all_below_last 1 f, all_below_last 0 f) refl
 
 pub inside_row : (b x : List ℕ) (begin r : ℕ) {at : ℕ} → at ≡ cell_place begin r 0 → all_below 4 (λ j. bit (byte_at b (at + j) % 32) (get_or x j 0)) ≡ row_inside b begin x r
 unfolding row_inside

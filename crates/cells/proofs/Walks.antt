@@ -9,11 +9,13 @@ use native.Mathlib.Omega.{arith}
 use lib.Bits.{bit_and, bit_or}
 use lib.Dec.{eqb, ltb}
 use lib.Pow.{pow-lt}
+use mir.Val.{bool_byte}
 use borrow.Author.Tests.{eqb-false, eqb-true, lt-ltb, ne_eqb}
 use Rattle.model.specs.Books.{in_domain, is_any}
 use Rattle.model.specs.Masks.{Cleared, bit}
 use Rattle.model.proofs.Masks.{bit-and, bit_high, bit_of_zero, bit-or, bit_pow, bit_pow_other}
 use Rattle.model.proofs.Tests.{and_false, and_true, either, positive}
+use Rattle.cells.specs.declared.bits.Places.{Places}
 use Rattle.cells.specs.Cells.{IsCell, Kept, KeptAny, KeptBy, Readable, WithAny, cell_at}
 
 pub four_all : (P : ℕ → Type 0) → P 0 → P 1 → P 2 → P 3 → (j : ℕ) → j < 4 → P j
@@ -58,6 +60,10 @@ part_cleared {left} {rest} {t} {word} c p =
           split k t (λ q. absurd (false≢true (sym c.gone ∙ ap (λ (i : ℕ). bit i rest) (sym q) ∙ e))) (λ n. p.at k (sym (c.rest k n) ∙ e));
     }
 
+-- what is left of the places of x, where none is taken yet, and later
+pub all_left : (s t : Places) {x : ℕ} → s ≡ t → t.left ≡ x → s.left ≡ x
+all_left s t e l = ap (λ (p : Places). p.left) e ∙ l
+
 -- 1 shifted to the place v
 pub shifted_one : (k v : ℕ) → v < k → (1 * 2 ^ v) % 2 ^ k ≡ 2 ^ v
 shifted_one k v l = rw (one-mul, mod-eq_of_lt (pow-lt l))
@@ -101,6 +107,19 @@ walked_turn {p} {word} {left} {keep} {rest} {h} {t} w c l q e =
           (λ z. rw (z, bit-or, digit_at h t l q, c.gone, e) (here_law (bit t keep) (eqb h 1) ∙ (rw (z, c.here, e) at (w.at k))))
           (λ n. rw (bit-or, digit_off h t k l q n, c.rest k n, or-false) (w.at k));
     }
+
+-- the same by what a test told
+pub walked_told : {p : ℕ → Bool} {word left keep rest t : ℕ} → Walked p word left keep → Cleared left rest t → t < 64 → (told : Bool) → told ≡ p t
+    → Walked p word rest (bit_or keep ((bool_byte told * 2 ^ t) % 2 ^ 64))
+walked_told {p} {t = t} w c q told e = walked_turn w c (small told) q (sym e ∙ digit told)
+  where
+    small : (b : Bool) → bool_byte b < 2
+    small true = omega arith
+    small false = omega arith
+
+    digit : (b : Bool) → b ≡ eqb (bool_byte b) 1
+    digit true = refl
+    digit false = refl
 
 -- the test of pass 1: the cell of row k of the word is one of the places m
 unfoldable pub cell_in : List ℕ → ℕ → ℕ → ℕ → ℕ → ℕ → Bool

@@ -5,7 +5,8 @@ use Rattle.model.specs.Books.{in_domain, is_any}
 use Rattle.model.specs.Masks.{bit}
 use Rattle.model.specs.Tests.{all_below}
 use Rattle.fields.specs.Bytes.{byte_at}
-use Rattle.counters.specs.Counters.{AtRow, cell_place}
+use Rattle.counters.specs.Counters.{cell_place}
+use Rattle.counters.specs.declared.counter.Counters.{Counters}
 
 -- the cell that stands there
 abbrev pub cell_at : List ℕ → ℕ → ℕ → ℕ → ℕ
@@ -21,12 +22,12 @@ pub record Readable (b : List ℕ) (begin from word : ℕ) : Type 0 where
   pub cell : (k j : ℕ) → bit k word ≡ true → j < 4 → IsCell (cell_at b begin (from + k) j)
 
 -- ---- the walk over rows
--- a walk stands at a word's first row, and the rows that are set in `rows` are there, in the same block
-pub record Stretch (b : List ℕ) (begin block row word bit₀ at rows : ℕ) : Type 0 where
-  pub stands : AtRow (64 * word) begin block row word bit₀ at
+-- a walk stands at a word's first row, and the rows that are set in `rows` are there, where it may go on to them
+pub record Stretch (may : Counters → ℕ → Type 0) (b : List ℕ) (p : Counters) (rows : ℕ) : Type 0 where
+  pub first : p.bit ≡ 0
   pub in_word : (k : ℕ) → bit k rows ≡ true → k < 64
-  pub in_block : (k : ℕ) → bit k rows ≡ true → row + k < 127
-  pub there : (k : ℕ) → bit k rows ≡ true → cell_place begin (64 * word + k) 3 < length b
+  pub may_go : (k : ℕ) → bit k rows ≡ true → may p k
+  pub there : (k : ℕ) → bit k rows ≡ true → cell_place p.begin (64 * p.word + k) 3 < length b
 
 -- no row is set but of the first 60
 pub record NearRows (word : ℕ) : Type 0 where
@@ -85,14 +86,13 @@ pub record SmallSets (f : List ℕ) : Type 0 where
   pub size : length f ≡ 4
   pub fits : (j : ℕ) → get_or f j 0 < 2 ^ 32
 
--- the sets h are the sets f and g together
-pub record Joined (f g h : List ℕ) : Type 0 where
-  pub small : SmallSets h
-  pub at : (j : ℕ) → j < 4 → get_or h j 0 ≡ bit_or (get_or f j 0) (get_or g j 0)
-
 -- the four bytes of a row are there
 abbrev pub RowThere : List ℕ → ℕ → Type 0
 RowThere b at = at + 3 < length b
+
+-- the sets g are the sets f with the values of the row at byte `at`
+pub record RowAdded (b : List ℕ) (at : ℕ) (f g : List ℕ) : Type 0 where
+  pub each : (j : ℕ) → j < 4 → get_or g j 0 ≡ bit_or (get_or f j 0) (2 ^ (byte_at b (at + j) % 32))
 
 -- the first n rows of the word are set
 pub record RunOf (word n : ℕ) : Type 0 where

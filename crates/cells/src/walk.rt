@@ -6,14 +6,16 @@ ghost use Rattle.std.specs.Int.Bits.{bit_or};
 ghost use Rattle.model.specs.Masks.{bit};
 ghost use Rattle.model.specs.Tests.{all_below};
 ghost use Rattle.fields.specs.Bytes.{byte_at};
-ghost use Rattle.counters.specs.Counters.{near_place, AtRow};
-ghost use Rattle.cells.specs.Cells.{NearRows, Stretch, Readable, WithAny, Kept, KeptAny, KeptBy, KeptInside, KeptRun, four_of, RowThere, RunOf, Gathered, GatheredRun, SmallSets, Joined};
+ghost use Rattle.counters.specs.Counters.{near_place};
+ghost use Rattle.counters.specs.Steps.{any_block, same_block};
+ghost use Rattle.cells.specs.Cells.{NearRows, Stretch, Readable, WithAny, Kept, KeptAny, KeptBy, KeptInside, KeptRun, RowAdded, RowThere, RunOf, Gathered, GatheredRun, SmallSets};
 
 use crate::bits::*;
 use counters::counter::*;
+use counters::step::*;
 
 // The place of 255: 255 % 64.
-const ANY: u64 = 9223372036854775808;
+const ANY: u64 = 1 << 63;
 
 // ---- pass 1: the rows whose cell at a place is in d
 //
@@ -32,19 +34,16 @@ fn with_any(d: u32) -> u64
     (d as u64) | ANY
 }
 
-// Rows of the first 60 that are set, one by one.
-fn kept_set(book: &[u8], p: Counters, j: usize, m: u64, word: u64) -> u64
-    requires { (j < 4) × Stretch book.now p.begin p.block p.row p.word p.bit p.at word }
+// The rows that are set, one by one.
+fn kept_set<S: Step>(book: &[u8], p: Counters, j: usize, m: u64, word: u64) -> u64
+    requires { (j < 4) × Stretch S.may book.now p word }
     ensures { KeptBy book.now p.begin (64 * p.word) j m word result }
 {
-    let mut left = word;
     let mut keep: u64 = 0;
-    while left != 0 {
-        let i = lowest(left);
-        let at = at_near(p, i as usize).at + j;
+    for i in Places::of(word) {
+        let at = S::on(p, i as usize).at + j;
         let v = fields::wide32(book[at]) % 64;
-        keep = keep | (has(m, v) << i);
-        left = without_lowest(left);
+        keep |= has(m, v) << i;
     }
     keep
 }
@@ -64,7 +63,7 @@ fn row_from(book: &[u8], at: usize, j: u32) -> u32
     requires { RowThere book.now at × (j < 4) }
     ensures { result % 64 ≡ byte_at book.now (at + j) % 64 }
 {
-    fields::word_of(book[at], book[at + 1], book[at + 2], book[at + 3]) >> (8 * j)
+    fields::word_at(book, at) >> (8 * j)
 }
 
 // Row k added to `keep`, where v is in d.
@@ -79,23 +78,22 @@ fn with_place(keep: u32, k: u32, d: u32, v: u32) -> u32
 }
 
 // The n rows from row `from` on, set or not. No row waits for the one before, and each is read as one number: so the compiler looks at four at a time.
+// The halves of the places come apart: with m in their place, tried, the walk over all rows takes 1.6 times as long.
 fn kept_run(book: &[u8], p: Counters, from: usize, n: u32, j: u32, low: u32, high: u32) -> u32
-    requires { (j < 4) × (n ≤ 32) × (from + n ≤ 60) × Stretch book.now p.begin p.block p.row p.word p.bit p.at (2 ^ 60 - 1) }
+    requires { (j < 4) × (n ≤ 32) × (from + n ≤ 60) × Stretch same_block book.now p (2 ^ 60 - 1) }
     ensures { KeptRun book.now p.begin (64 * p.word + from) n j (low + 2 ^ 32 * high) result }
 {
     let mut keep: u32 = 0;
-    let mut k: u32 = 0;
-    while k < n {
-        let x = row_from(book, at_near(p, from + (k as usize)).at, j);
+    for k in 0..n {
+        let x = row_from(book, p.at_near(from + (k as usize)).at, j);
         keep = with_place(keep, k, half_for(low, high, x), x % 32);
-        k += 1;
     }
     keep
 }
 
 // All 60, set or not, with no test.
 fn kept_all(book: &[u8], p: Counters, j: usize, m: u64) -> u64
-    requires { (j < 4) × Stretch book.now p.begin p.block p.row p.word p.bit p.at (2 ^ 60 - 1) }
+    requires { (j < 4) × Stretch same_block book.now p (2 ^ 60 - 1) }
     ensures { KeptBy book.now p.begin (64 * p.word) j m (2 ^ 60 - 1) result }
 {
     let low = (m % 4294967296) as u32;
@@ -112,30 +110,13 @@ fn many(word: u64) -> bool {
 
 // The first 60 rows.
 fn kept_near(book: &[u8], p: Counters, j: usize, m: u64, word: u64) -> u64
-    requires { (j < 4) × Stretch book.now p.begin p.block p.row p.word p.bit p.at (2 ^ 60 - 1) × NearRows word }
+    requires { (j < 4) × Stretch same_block book.now p (2 ^ 60 - 1) × NearRows word }
     ensures { KeptBy book.now p.begin (64 * p.word) j m word result }
 {
     if many(word) {
         return kept_all(book, p, j, m) & word;
     }
-    kept_set(book, p, j, m, word)
-}
-
-// Rows anywhere in the word.
-fn kept_far(book: &[u8], p: Counters, j: usize, m: u64, word: u64) -> u64
-    requires { (j < 4) × AtRow (64 * p.word) p.begin p.block p.row p.word p.bit p.at × Readable book.now p.begin (64 * p.word) word }
-    ensures { KeptBy book.now p.begin (64 * p.word) j m word result }
-{
-    let mut left = word;
-    let mut keep: u64 = 0;
-    while left != 0 {
-        let i = lowest(left);
-        let at = at_bit(p, i as usize).at + j;
-        let v = fields::wide32(book[at]) % 64;
-        keep = keep | (has(m, v) << i);
-        left = without_lowest(left);
-    }
-    keep
+    kept_set::<Near>(book, p, j, m, word)
 }
 
 // The rows of word w whose cell at place j is a place of m.
@@ -143,8 +124,8 @@ fn kept_by(book: &[u8], begin: usize, w: usize, j: usize, m: u64, word: u64) -> 
     requires { (w < 8) × (j < 4) × Readable book.now begin (64 * w) word × (near_place begin w + 239 < length book.now) }
     ensures { KeptBy book.now begin (64 * w) j m word result }
 {
-    let p = at_word(begin, w);
-    let far = kept_far(book, p, j, m, past_rows(word, 60));
+    let p = Counters::at_word(begin, w);
+    let far = kept_set::<Far>(book, p, j, m, past_rows(word, 60));
     kept_near(book, p, j, m, first_rows(word, 60)) | far
 }
 
@@ -166,41 +147,32 @@ pub fn kept_any(book: &[u8], begin: usize, w: usize, j: usize, word: u64) -> u64
 
 // ---- all places at once: the rows of a forbidden sheet whose every cell is in a set. No cell of it is 255: the cell x is looked up at x % 32
 
-// Whether the cell is in the set d, as 0 or 1.
-fn held(d: u32, cell: u8) -> u64
-    ensures { (result < 2) × (eqb result 1 ≡ bit (cell % 32) d) }
+// Whether the cell is in the set d.
+fn held(d: u32, cell: u8) -> bool
+    ensures { result ≡ bit (cell % 32) d }
 {
-    has(d as u64, fields::wide32(cell) % 32)
+    has(d as u64, fields::wide32(cell) % 32) == 1
 }
 
-// Whether every cell of the row at byte `at` is in the set of its place, as 0 or 1.
-fn inside(book: &[u8], at: usize, x: &[u32; 4]) -> u64
+// Whether every cell of the row at byte `at` is in the set of its place.
+fn inside(book: &[u8], at: usize, x: &[u32; 4]) -> bool
     requires { RowThere book.now at }
-    ensures { (result < 2) × (eqb result 1 ≡ all_below 4 (λ j. bit (byte_at book.now (at + j) % 32) (get_or x.now j 0))) }
+    ensures { result ≡ all_below 4 (λ j. bit (byte_at book.now (at + j) % 32) (get_or x.now j 0)) }
 {
-    if held(x[0], book[at]) == 0 {
-        return 0;
-    }
-    if held(x[1], book[at + 1]) == 0 {
-        return 0;
-    }
-    if held(x[2], book[at + 2]) == 0 {
-        return 0;
-    }
-    held(x[3], book[at + 3])
+    held(x[0], book[at])
+        & held(x[1], book[at + 1])
+        & held(x[2], book[at + 2])
+        & held(x[3], book[at + 3])
 }
 
 // Rows anywhere in the word.
 fn inside_rows(book: &[u8], p: Counters, x: &[u32; 4], word: u64) -> u64
-    requires { AtRow (64 * p.word) p.begin p.block p.row p.word p.bit p.at × Readable book.now p.begin (64 * p.word) word }
+    requires { Stretch any_block book.now p word }
     ensures { KeptInside book.now p.begin (64 * p.word) x.now word result }
 {
-    let mut left = word;
     let mut keep: u64 = 0;
-    while left != 0 {
-        let i = lowest(left);
-        keep = keep | (inside(book, at_bit(p, i as usize).at, x) << i);
-        left = without_lowest(left);
+    for i in Places::of(word) {
+        keep |= (inside(book, p.at_bit(i as usize).at, x) as u64) << i;
     }
     keep
 }
@@ -210,30 +182,18 @@ pub fn kept_inside(book: &[u8], begin: usize, w: usize, x: &[u32; 4], word: u64)
     requires { (w < 8) × Readable book.now begin (64 * w) word × (near_place begin w < 2 ^ 64) }
     ensures { KeptInside book.now begin (64 * w) x.now word result }
 {
-    inside_rows(book, at_word(begin, w), x, word)
+    inside_rows(book, Counters::at_word(begin, w), x, word)
 }
 
 // ---- pass 2: the values at each of the four places. Of the cell x this is x % 32: 255 gives 31, which such a row does carry
 
-// A set of values for each place, while the rows of one word are walked.
-#[derive(Clone, Copy)]
-pub struct Four {
-    pub a: u32,
-    pub b: u32,
-    pub c: u32,
-    pub d: u32,
-}
-
 // The values of the row at byte `at`, added to the sets.
-fn with_row(book: &[u8], at: usize, f: Four) -> Four
-    requires { RowThere book.now at }
-    ensures { (result.a ≡ bit_or f.a (2 ^ (byte_at book.now (at + 0) % 32))) × (result.b ≡ bit_or f.b (2 ^ (byte_at book.now (at + 1) % 32))) × (result.c ≡ bit_or f.c (2 ^ (byte_at book.now (at + 2) % 32))) × (result.d ≡ bit_or f.d (2 ^ (byte_at book.now (at + 3) % 32))) }
+fn add_row(book: &[u8], at: usize, sets: &mut [u32; 4])
+    requires { RowThere book.now at × SmallSets sets.old }
+    ensures { RowAdded book.now at sets.old sets.new × SmallSets sets.new }
 {
-    Four {
-        a: f.a | only(fields::wide32(book[at]) % 32),
-        b: f.b | only(fields::wide32(book[at + 1]) % 32),
-        c: f.c | only(fields::wide32(book[at + 2]) % 32),
-        d: f.d | only(fields::wide32(book[at + 3]) % 32),
+    for j in 0..4 {
+        sets[j] |= only(fields::wide32(book[at + j]) % 32);
     }
 }
 
@@ -244,88 +204,42 @@ fn run_of(word: u64) -> usize
     u64::trailing_zeros(!word) as usize
 }
 
-// The first n rows of a word, all of them set.
-fn gathered_run(book: &[u8], p: Counters, n: usize) -> Four
-    requires { Stretch book.now p.begin p.block p.row p.word p.bit p.at (2 ^ n - 1) }
-    ensures { GatheredRun book.now p.begin (64 * p.word) n (four_of 0 0 0 0) (four_of result.a result.b result.c result.d) }
+// The first n rows of a word, all of them set. The sets that the loop adds to are a copy, which stays in registers.
+fn gathered_run(book: &[u8], p: Counters, n: usize, seen: &mut [u32; 4])
+    requires { Stretch same_block book.now p (2 ^ n - 1) × SmallSets seen.old }
+    ensures { GatheredRun book.now p.begin (64 * p.word) n seen.old seen.new × SmallSets seen.new }
 {
-    let mut g = Four {
-        a: 0,
-        b: 0,
-        c: 0,
-        d: 0,
-    };
-    let mut k: usize = 0;
-    while k < n {
-        g = with_row(book, at_near(p, k).at, g);
-        k += 1;
+    let mut sets = *seen;
+    for i in 0..n {
+        add_row(book, p.at_near(i).at, &mut sets);
     }
-    g
+    *seen = sets;
 }
 
-// Rows of the first 60 that are set, one by one.
-fn gathered_set(book: &[u8], p: Counters, word: u64) -> Four
-    requires { Stretch book.now p.begin p.block p.row p.word p.bit p.at word }
-    ensures { Gathered book.now p.begin (64 * p.word) word (four_of 0 0 0 0) (four_of result.a result.b result.c result.d) }
+// The rows that are set, one by one.
+fn gathered_set<S: Step>(book: &[u8], p: Counters, word: u64, seen: &mut [u32; 4])
+    requires { Stretch S.may book.now p word × SmallSets seen.old }
+    ensures { Gathered book.now p.begin (64 * p.word) word seen.old seen.new × SmallSets seen.new }
 {
-    let mut left = word;
-    let mut g = Four {
-        a: 0,
-        b: 0,
-        c: 0,
-        d: 0,
-    };
-    while left != 0 {
-        let i = lowest(left);
-        g = with_row(book, at_near(p, i as usize).at, g);
-        left = without_lowest(left);
+    let mut sets = *seen;
+    for i in Places::of(word) {
+        add_row(book, S::on(p, i as usize).at, &mut sets);
     }
-    g
-}
-
-// Rows anywhere in the word.
-fn gathered_far(book: &[u8], p: Counters, word: u64) -> Four
-    requires { AtRow (64 * p.word) p.begin p.block p.row p.word p.bit p.at × Readable book.now p.begin (64 * p.word) word }
-    ensures { Gathered book.now p.begin (64 * p.word) word (four_of 0 0 0 0) (four_of result.a result.b result.c result.d) }
-{
-    let mut left = word;
-    let mut g = Four {
-        a: 0,
-        b: 0,
-        c: 0,
-        d: 0,
-    };
-    while left != 0 {
-        let i = lowest(left);
-        g = with_row(book, at_bit(p, i as usize).at, g);
-        left = without_lowest(left);
-    }
-    g
-}
-
-// Sets added to sets.
-fn add(seen: &mut [u32; 4], g: Four)
-    requires { SmallSets seen.old }
-    ensures { Joined seen.old (four_of g.a g.b g.c g.d) seen.new }
-{
-    seen[0] = seen[0] | g.a;
-    seen[1] = seen[1] | g.b;
-    seen[2] = seen[2] | g.c;
-    seen[3] = seen[3] | g.d;
+    *seen = sets;
 }
 
 // The first 60 rows: those that are set from the first on without a gap, and then the others.
 fn gathered_near(book: &[u8], p: Counters, word: u64, seen: &mut [u32; 4])
-    requires { Stretch book.now p.begin p.block p.row p.word p.bit p.at word × SmallSets seen.old }
+    requires { Stretch same_block book.now p word × SmallSets seen.old }
     ensures { Gathered book.now p.begin (64 * p.word) word seen.old seen.new × SmallSets seen.new }
 {
     let n = run_of(word);
     if n < 24 {
-        add(seen, gathered_set(book, p, word));
+        gathered_set::<Near>(book, p, word, seen);
         return;
     }
-    add(seen, gathered_run(book, p, n));
-    add(seen, gathered_set(book, p, past_rows(word, n)));
+    gathered_run(book, p, n, seen);
+    gathered_set::<Near>(book, p, past_rows(word, n), seen);
 }
 
 // Pass 2 over word w: the values of its rows are added to a set for each place.
@@ -333,7 +247,7 @@ pub fn gathered(book: &[u8], begin: usize, w: usize, word: u64, seen: &mut [u32;
     requires { (w < 8) × Readable book.now begin (64 * w) word × (near_place begin w + 239 < length book.now) × SmallSets seen.old }
     ensures { Gathered book.now begin (64 * w) word seen.old seen.new × SmallSets seen.new }
 {
-    let p = at_word(begin, w);
+    let p = Counters::at_word(begin, w);
     gathered_near(book, p, first_rows(word, 60), seen);
-    add(seen, gathered_far(book, p, past_rows(word, 60)));
+    gathered_set::<Far>(book, p, past_rows(word, 60), seen);
 }

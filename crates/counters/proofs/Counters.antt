@@ -1,8 +1,8 @@
--- Laws of the counters: where a row stands, and the rows of a word below a number. Assumes nothing.
+-- Laws of a word cut in two: its rows below a number, and the others. Assumes nothing.
 use mathlib.Core.Path.{◌∙◌, ◌≡◌, ap, refl}
 use mathlib.Core.Bool.{Bool, ◌&&◌, false, not}
 use mathlib.Core.Logic.{◌⊎◌, inl, inr}
-use Prim.Native.Nat.{◌%◌, ◌*◌, ◌+◌, ◌-◌, ◌/◌, ◌<◌, ◌^◌, ◌≤◌, ℕ}
+use Prim.Native.Nat.{◌-◌, ◌/◌, ◌<◌, ◌^◌, ◌≤◌, ℕ}
 use native.Mathlib.Nat.{div-le_self, lt_of_le_of_lt}
 use native.Mathlib.Omega.{arith}
 use lib.Bits.{bit_and}
@@ -10,29 +10,8 @@ use lib.Dec.{ltb}
 use Rattle.model.specs.Masks.{bit}
 use Rattle.model.proofs.Masks.{bit-and, bit_high, ones64}
 use Rattle.model.proofs.Tests.{below}
-use Rattle.counters.specs.Counters.{FirstRows, PastRows, cell_place}
+use Rattle.counters.specs.Counters.{FirstRows, PastRows}
 use Rattle.counters.proofs.Ones.{complement, ones_shifted}
-
--- ---- where a row stands
--- a word's first row in its block: two words are a block and one row more
-pub first_in_block : (w : ℕ) → w < 8 → w / 2 + 64 * (w % 2) ≡ 64 * w % 127
-first_in_block w l = omega arith
-
--- k rows after row r, which is in block `block`, and `more` blocks after that
-pub place_moved : (begin r block k more : ℕ) {at q : ℕ} → at ≡ cell_place begin r 0 → block ≡ r / 127 → (r + k) / 127 ≡ block + more → q ≡ at + 4 * (k + more)
-    → q ≡ cell_place begin (r + k) 0
-place_moved begin r block k more e f g h = omega (arith, e, f, g, h)
-
--- in the same block
-pub place_along : (begin r block k : ℕ) {at q : ℕ} → at ≡ cell_place begin r 0 → block ≡ r / 127 → (r + k) / 127 ≡ block → q ≡ at + 4 * k → q ≡ cell_place begin (r + k) 0
-place_along begin r block k e f g h = omega (arith, e, f, g, h)
-
--- its row there
-pub row_moved : (r block row k more : ℕ) {q : ℕ} → r ≡ 127 * block + row → (r + k) / 127 ≡ block + more → q ≡ row + k - 127 * more → q ≡ (r + k) % 127
-row_moved r block row k more e f h = omega (arith, e, f, h)
-
-pub row_along : (r block row k : ℕ) {q : ℕ} → r ≡ 127 * block + row → (r + k) / 127 ≡ block → q ≡ row + k → q ≡ (r + k) % 127
-row_along r block row k e f h = omega (arith, e, f, h)
 
 -- ---- the rows of a word below a number, and the others
 pub first_rows : (word n : ℕ) → n ≤ 64 → FirstRows word n (bit_and word (ones64 / 2 ^ (64 - n)))

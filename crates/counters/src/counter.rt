@@ -18,36 +18,56 @@ pub struct Counters {
     pub word: usize,
     pub bit: usize,
     pub at: usize,
+    pub ghost stands: { AtRow (64 * word + bit) begin block row word bit at },
 }
 
-// At the first row of word w. Two words are a block and one row more.
-pub fn at_word(begin: usize, w: usize) -> Counters
-    requires { (w < 8) × (near_place begin w < 2 ^ 64) }
-    ensures { (result.begin ≡ begin) × (result.word ≡ w) × AtRow (64 * result.word) result.begin result.block result.row result.word result.bit result.at }
-{
-    let block = w / 2;
-    Counters {
-        begin: begin,
-        block: block,
-        row: block + 64 * (w % 2),
-        word: w,
-        bit: 0,
-        at: begin + 4 * (64 * w + block),
+impl Counters {
+    // At the first row of word w. Two words are a block and one row more.
+    pub fn at_word(begin: usize, w: usize) -> Counters
+        requires { (w < 8) × (near_place begin w < 2 ^ 64) }
+        ensures { (result.begin ≡ begin) × (result.word ≡ w) × (result.bit ≡ 0) }
+    {
+        let block = w / 2;
+        Counters {
+            begin,
+            block,
+            row: block + 64 * (w % 2),
+            word: w,
+            bit: 0,
+            at: begin + 4 * (64 * w + block),
+        }
     }
-}
 
-// From there on to bit i, in the same block.
-pub fn at_near(p: Counters, i: usize) -> Counters
-    requires { AtRow (64 * p.word) p.begin p.block p.row p.word p.bit p.at × (i < 64) × (p.row + i < 127) × (cell_place p.begin (64 * p.word + i) 0 < 2 ^ 64) }
-    ensures { AtRow (64 * p.word + i) p.begin result.block result.row result.word result.bit result.at }
-{
-    Counters {
-        begin: p.begin,
-        block: p.block,
-        row: p.row + i,
-        word: p.word,
-        bit: i,
-        at: p.at + 4 * i,
+    // i rows on, in the same word and the same block.
+    pub fn at_near(self, i: usize) -> Counters
+        requires { (self.bit + i < 64) × (self.row + i < 127) × (cell_place self.begin (64 * self.word + self.bit + i) 0 < 2 ^ 64) }
+        ensures { (result.begin ≡ self.begin) × (result.word ≡ self.word) × (result.bit ≡ self.bit + i) }
+    {
+        Counters {
+            begin: self.begin,
+            block: self.block,
+            row: self.row + i,
+            word: self.word,
+            bit: self.bit + i,
+            at: self.at + 4 * i,
+        }
+    }
+
+    // i rows on in the same word, in the same block or in the next.
+    pub fn at_bit(self, i: usize) -> Counters
+        requires { (self.bit + i < 64) × (cell_place self.begin (64 * self.word + self.bit + i) 0 < 2 ^ 64) }
+        ensures { (result.begin ≡ self.begin) × (result.word ≡ self.word) × (result.bit ≡ self.bit + i) }
+    {
+        let row = self.row + i;
+        let more = ended(row);
+        Counters {
+            begin: self.begin,
+            block: self.block + more,
+            row: row - 127 * more,
+            word: self.word,
+            bit: self.bit + i,
+            at: self.at + 4 * (i + more),
+        }
     }
 }
 
@@ -59,30 +79,12 @@ fn ended(row: usize) -> usize
     if row < 127 { 0 } else { 1 }
 }
 
-// From there on to bit i, in the same block or in the next.
-pub fn at_bit(p: Counters, i: usize) -> Counters
-    requires { AtRow (64 * p.word) p.begin p.block p.row p.word p.bit p.at × (i < 64) × (cell_place p.begin (64 * p.word + i) 0 < 2 ^ 64) }
-    ensures { AtRow (64 * p.word + i) p.begin result.block result.row result.word result.bit result.at }
-{
-    let row = p.row + i;
-    let more = ended(row);
-    Counters {
-        begin: p.begin,
-        block: p.block + more,
-        row: row - 127 * more,
-        word: p.word,
-        bit: i,
-        at: p.at + 4 * (i + more),
-    }
-}
-
 // The first n rows of a word.
 pub fn first_rows(word: u64, n: usize) -> u64
     requires { (0 < n) × (n ≤ 64) }
     ensures { FirstRows word n result }
 {
-    let all: u64 = 18446744073709551615;
-    word & (all >> (64 - n))
+    word & (u64::MAX >> (64 - n))
 }
 
 // Its other rows.
@@ -90,6 +92,5 @@ pub fn past_rows(word: u64, n: usize) -> u64
     requires { (0 < n) × (n ≤ 64) }
     ensures { PastRows word n result }
 {
-    let all: u64 = 18446744073709551615;
-    word & !(all >> (64 - n))
+    word & !(u64::MAX >> (64 - n))
 }

@@ -7,3 +7,4 @@
 #![tactic(auto)]
 
 pub mod counter;
+pub mod step;

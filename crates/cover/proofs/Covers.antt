@@ -104,10 +104,6 @@ allowed_entry T c e a h = go (or_e _ (bit a (entry_at T c e)) (sym (allowed_bits
     go (inl p) = second (or_e _ (bit a (entry_at T 32 e)) p)
     go (inr p) = (c, e, inl refl, inl refl, p)
 
--- ---- the empty table
-pub no_rows : IsTable (replicate 1089 0)
-no_rows = record { size = length-replicate {A = ℕ} 1089 0; fits = λ i. rw (zeros_at 1089 i) (omega arith) }
-
 value_small : {x : List ℕ} → SmallSets x → (t : ℕ → ℕ) → ChosenFrom x t → (j : ℕ) → j < 4 → t j < 32
 value_small {x} f t k j l = bit_below 32 (get_or x j 0) (t j) (f.fits j) (k.each j l)
 

@@ -49,17 +49,14 @@ module _ (shorts : ℕ) (x : List ℕ) where
       rw (free_size 0, free_size 1, free_size 2, free_size 3, one-mul, mul-one, mul_assoc (n 0 * n 1) (n 2) (n 3), mul_assoc (n 0) (n 1) (n 2 * n 3))
 
 -- ---- the choices, as the code counts them
-pub sizes_none : (D : List ℕ) {Z : List ℕ} → Z ≡ replicate 16 0 → SizesTo D 0 Z
-sizes_none D e = record { all = ap length e ∙ length-replicate {A = ℕ} 16 0; at = λ c l. absurd (omega arith) }
-
-pub sizes_more : {D Z : List ℕ} {n : ℕ} → IsStore 16 D → n < 16 → SizesTo D n Z → SizesTo D (n + 1) (set Z n (ones (get_or D n 0)))
+pub sizes_more : {D Z : List ℕ} {n : ℕ} → get_or D n 0 < 2 ^ 32 → n < 16 → SizesTo D n Z → SizesTo D (n + 1) (set Z n (ones (get_or D n 0)))
 sizes_more {D} {Z} {n} d l h = record { all = length-set Z n _ ∙ h.all; at = λ c p. go c (below c n) p }
   where
     go : (c : ℕ) → (c < n) ⊎ (n ≤ c) → c < n + 1 → get_or (set Z n (ones (get_or D n 0))) c 0 ≡ size (get_or D c 0)
     go c (inl q) p = get_or-set_other Z n c (ones (get_or D n 0)) 0 (λ e. omega arith) ∙ h.at c q
     go c (inr q) p =
         let e : c ≡ n = omega arith in
-        rw (e, get_or-set_same Z n (ones (get_or D n 0)) 0 (omega (arith, h.all))) (sym (count_ones 32 (get_or D n 0) (d.bits n)))
+        rw (e, get_or-set_same Z n (ones (get_or D n 0)) 0 (omega (arith, h.all))) (sym (count_ones 32 (get_or D n 0) d))
 
 pub sizes_few : {D Z : List ℕ} → SizesTo D 16 Z → FewValues Z
 sizes_few {D} h = record { all = h.all; most = λ c l. rw (h.at c l) (count_most 32 (λ v. bit v (get_or D c 0))) }

@@ -187,9 +187,6 @@ pub record Tabling (b : List ℕ) (s v p : ℕ) (W X T U : List ℕ) : Type 0 wh
       → (bit a (get_or T i 0) ≡ true)
       ⊎ ((r : ℕ) × (set_with b s W v r ≡ true) × (33 * slot (value_at b s r 2) + slot (value_at b s r 1) ≡ i) × (matches (value_at b s r 0) a ≡ true))
 
-pub tabling_start : {b : List ℕ} {s v : ℕ} {W X T : List ℕ} → IsTable T → Tabling b s v 0 W X T T
-tabling_start h = record { table = h; old = λ i a l e. e; done = λ q k a l. absurd (omega arith); sound = λ i a l e. inl e }
-
 module _ {b : List ℕ} {begin s : ℕ} (a : AtSheet b begin s) {W X N : List ℕ} (h : SheetWords b s W X N) where
   -- the rows of a word that are kept can be read
   pub kept_readable : {from d word keep : ℕ} → Readable b begin from word → Kept b begin from 3 d word keep → Readable b begin from keep

@@ -3,7 +3,7 @@
 // At a place without 255 a row matches one value only. So if every choice is matched, each choice for these places has a row of its own.
 ghost use Rattle.std.specs.Prelude.{◌≡◌, ◌<◌, ◌≤◌, ltb, get_or};
 ghost use Rattle.heads.specs.Heads.{width_of};
-ghost use Rattle.words.specs.Sheets.{IndexOf, IsSheet, rows_to};
+ghost use Rattle.words.specs.Sheets.{IndexOf, IsSheet, Sized, rows_to};
 ghost use Rattle.cover.specs.Covers.{FewValues, SizesTo, plain_in};
 
 use heads::head::Head;
@@ -13,7 +13,11 @@ use words::index::Rows;
 pub fn count_values(dom: &[u32; 16]) -> [u32; 16]
     ensures { SizesTo dom.now 16 result }
 {
-    dom.map(u32::count_ones)
+    let mut sizes = [0u32; 16];
+    for c in 0..16 {
+        sizes[c] = dom[c].count_ones();
+    }
+    sizes
 }
 
 // How many choices the places of sheet s have where it has no 255. `shorts` has bit 8 j + 7 set for a place j at which it has one.
@@ -33,7 +37,7 @@ fn plain_choices(book: &[u8], s: usize, shorts: u32, sizes: &[u32; 16]) -> u32
 
 // Whether fewer rows are set than there are choices. A word has 64 rows at most, so mostly none has to be counted.
 pub fn too_few(book: &[u8], s: usize, shorts: u32, sizes: &[u32; 16], rows: &Rows) -> bool
-    requires { IsSheet book.now s × FewValues sizes.now × IndexOf s rows.now.valid rows.now.index rows.now.nonzero }
+    requires { IsSheet book.now s × FewValues sizes.now × Sized rows.now.valid rows.now.index rows.now.nonzero × IndexOf s rows.now.valid rows.now.index rows.now.nonzero }
     ensures { result ≡ ltb (rows_to rows.now.valid rows.now.index s (get_or rows.now.nonzero s 0)) (plain_in book.now s shorts sizes.now (width_of book.now s)) }
 {
     let choices = plain_choices(book, s, shorts, sizes);

@@ -3,14 +3,15 @@
 ghost use Rattle.std.specs.Prelude.{◌≡◌, ◌+◌, ◌*◌, ◌<◌, length};
 ghost use Rattle.fields.specs.Bytes.{byte_at};
 ghost use Rattle.model.specs.Masks.{bit};
-ghost use Rattle.counters.specs.Counters.{AtRow, near_place};
+ghost use Rattle.counters.specs.Counters.{near_place};
 ghost use Rattle.cells.specs.Cells.{IsCell, Readable, Stretch, cell_at};
 ghost use Rattle.words.specs.Sheets.{SheetWords};
 ghost use Rattle.cover.specs.Covers.{MatchedValues, RowAt, RowPut, TableOf, Tabled, slot};
 
-use cells::bits::*;
-use cells::walk::*;
-use counters::counter::*;
+use cells::bits::{Places, only};
+use cells::walk::kept;
+use counters::counter::{Counters, first_rows, past_rows};
+use counters::step::{Far, Near, Step};
 use words::index::Rows;
 use words::sheet::Sheet;
 
@@ -44,29 +45,13 @@ fn put_row(book: &[u8], at: usize, table: &mut [u32; 1089])
     table[i] = table[i] | matched_values(book[at]);
 }
 
-// The rows that are set in `word`, of the first 60 of a word.
-fn put_near(book: &[u8], p: Counters, word: u64, table: &mut [u32; 1089])
-    requires { Stretch book.now p.begin p.block p.row p.word p.bit p.at word × Readable book.now p.begin (64 * p.word) word }
+// The rows that are set in `word`.
+fn put_set<S: Step>(book: &[u8], p: Counters, word: u64, table: &mut [u32; 1089])
+    requires { Stretch S.may book.now p word × Readable book.now p.begin (64 * p.word) word }
     ensures { Tabled (λ k j. cell_at book.now p.begin (64 * p.word + k) j) (λ k. bit k word) table.old table.new }
 {
-    let mut left = word;
-    while left != 0 {
-        let i = lowest(left) as usize;
-        put_row(book, at_near(p, i).at, table);
-        left = without_lowest(left);
-    }
-}
-
-// The rows that are set in `word`, anywhere in a word.
-fn put_far(book: &[u8], p: Counters, word: u64, table: &mut [u32; 1089])
-    requires { AtRow (64 * p.word) p.begin p.block p.row p.word p.bit p.at × Readable book.now p.begin (64 * p.word) word }
-    ensures { Tabled (λ k j. cell_at book.now p.begin (64 * p.word + k) j) (λ k. bit k word) table.old table.new }
-{
-    let mut left = word;
-    while left != 0 {
-        let i = lowest(left) as usize;
-        put_row(book, at_bit(p, i).at, table);
-        left = without_lowest(left);
+    for i in Places::of(word) {
+        put_row(book, S::on(p, i as usize).at, table);
     }
 }
 
@@ -75,9 +60,9 @@ fn put_word(book: &[u8], begin: usize, w: usize, word: u64, table: &mut [u32; 10
     requires { (w < 8) × Readable book.now begin (64 * w) word × (near_place begin w + 239 < length book.now) }
     ensures { Tabled (λ k j. cell_at book.now begin (64 * w + k) j) (λ k. bit k word) table.old table.new }
 {
-    let p = at_word(begin, w);
-    put_far(book, p, past_rows(word, 60), table);
-    put_near(book, p, first_rows(word, 60), table);
+    let p = Counters::at_word(begin, w);
+    put_set::<Far>(book, p, past_rows(word, 60), table);
+    put_set::<Near>(book, p, first_rows(word, 60), table);
 }
 
 // The rows of the sheet that are set and match the value v at place 3.
@@ -85,11 +70,10 @@ pub fn put_sheet(sheet: &Sheet<'_>, v: u32, rows: &Rows, table: &mut [u32; 1089]
     requires { SheetWords sheet.now.book.now sheet.now.number rows.now.valid rows.now.index rows.now.nonzero × (v < 32) }
     ensures { TableOf sheet.now.book.now sheet.now.number rows.now.valid v table.old table.new }
 {
-    let s = sheet.number;
     let d = only(v);
-    for p in 0..rows.nonzero_words(s) {
-        let w = rows.word_number(s, p);
-        let word = kept(sheet.book, sheet.begin, w, 3, d, rows.valid[8 * s + w]);
+    for p in 0..rows.nonzero_words(sheet.number) {
+        let (w, word) = rows.word(sheet.number, p);
+        let word = kept(sheet.book, sheet.begin, w, 3, d, word);
         put_word(sheet.book, sheet.begin, w, word, table);
     }
 }

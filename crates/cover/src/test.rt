@@ -8,9 +8,9 @@ ghost use Rattle.book.specs.Decoding.{book_of};
 ghost use Rattle.words.specs.Sheets.{SheetWords};
 ghost use Rattle.cover.specs.Covers.{SettledSheet, SizesTo, TellsAllowed, TellsMatched};
 
-use crate::few::*;
-use crate::table::*;
-use cells::bits::*;
+use crate::few::too_few;
+use crate::table::put_sheet;
+use cells::bits::Places;
 use words::gather::wanted;
 use words::index::Rows;
 use words::sheet::{LaidSheet, Sheet};
@@ -22,13 +22,11 @@ fn allows_with(table: &[u32; 1089], x: &[u32; 4], c: usize) -> bool
 {
     let wanted = x[0];
     let any = table[1088] | table[33 * c + 32];
-    let mut left = x[1] as u64;
-    while left != 0 {
-        let e = lowest(left) as usize;
+    for e in Places::of(x[1] as u64) {
+        let e = e as usize;
         if wanted & !(any | table[1056 + e] | table[33 * c + e]) != 0 {
             return false;
         }
-        left = without_lowest(left);
     }
     true
 }
@@ -37,13 +35,10 @@ fn allows_with(table: &[u32; 1089], x: &[u32; 4], c: usize) -> bool
 fn allows_all(table: &[u32; 1089], x: &[u32; 4]) -> bool
     ensures { TellsAllowed table.now x.now (get_or x.now 2 0) result }
 {
-    let mut left = x[2] as u64;
-    while left != 0 {
-        let c = lowest(left) as usize;
-        if !allows_with(table, x, c) {
+    for c in Places::of(x[2] as u64) {
+        if !allows_with(table, x, c as usize) {
             return false;
         }
-        left = without_lowest(left);
     }
     true
 }
@@ -53,15 +48,12 @@ fn all_matched(sheet: &Sheet<'_>, x: &[u32; 4], rows: &Rows) -> bool
     requires { SheetWords sheet.now.book.now sheet.now.number rows.now.valid rows.now.index rows.now.nonzero }
     ensures { TellsMatched sheet.now.book.now sheet.now.number rows.now.valid x.now result }
 {
-    let mut left = x[3] as u64;
-    while left != 0 {
-        let v = lowest(left);
+    for v in Places::of(x[3] as u64) {
         let mut table = [0u32; 1089];
         put_sheet(sheet, v, rows, &mut table);
         if !allows_all(&table, x) {
             return false;
         }
-        left = without_lowest(left);
     }
     true
 }

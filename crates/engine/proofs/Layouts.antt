@@ -57,7 +57,7 @@ columns_more {b} {s} {n} {m} {c} h e l =
 
 pub columns_end : {b : List ℕ} {s n m : ℕ} → n ≡ width_of b s → ColumnsTo b s n m → ColumnsIn b s m
 columns_end e h =
-    record { all = λ j l. h.all j (omega arith); only = λ c f. let r = h.only c f in (r.0, omega (arith, r.1), r.2) }
+    record { all = λ j l. h.all j (omega arith); only = λ c f. let r = h.only c f in ∣ (r.0, omega (arith, r.1), r.2) ∣₁ }
 
 -- ---- the places with 255, block by block
 -- those of the rows in the blocks below n

@@ -38,6 +38,13 @@ impl<'a> SheetBlocks<'a> {
         Head::of(self.book)
     }
 
+    // How many rows it has.
+    pub(crate) fn rows(&self) -> usize
+        ensures { result ≡ rows_of self.now.book.now self.now.number }
+    {
+        self.head().rows(self.number)
+    }
+
     // Its block q.
     pub(crate) fn block(&self, q: usize) -> Block<'a>
         requires { q < blocks_of self.now.book.now self.now.number }

@@ -7,7 +7,6 @@
 ghost use Rattle.std.specs.Prelude.{◌≡◌, ◌≤◌, length, take};
 ghost use Rattle.fit.specs.Prints.{columns_shown, run_text};
 
-use fields::wide;
 use std::io::Read;
 use std::rt::Files;
 use std::{fs, io};
@@ -16,14 +15,10 @@ use std::{fs, io};
 fn columns(book: &[u8]) -> usize
     ensures { (result ≡ columns_shown book.now) × (result ≤ 16) }
 {
-    if book.len() <= 4 {
-        return 0;
+    match book.get(4) {
+        Some(&c) if c <= 16 => usize::from(c),
+        _ => 0,
     }
-    let c = wide(book[4]);
-    if 16 < c {
-        return 0;
-    }
-    c
 }
 
 // Runs the list, and puts the text of the run at the start of `out`. The opening and 256 orders have 257 answers of 72 bytes, 18,504 in all.

@@ -48,21 +48,6 @@ impl<'a> Block<'a> {
         }
         total
     }
-
-    // The check that stands in it.
-    fn check(&self) -> u32
-        ensures { result ≡ word_at self.now.bytes.now 508 }
-    {
-        word_at(self.bytes, 508)
-    }
-}
-
-// What the number of a block adds to its check.
-fn number_in_check(n: usize) -> u32
-    requires { n < 65536 }
-    ensures { result ≡ n + 1 }
-{
-    n as u32 + 1
 }
 
 // Whether the check of block n is wrong. The full sum has the check in it, so it is added on the other side too.
@@ -71,8 +56,8 @@ fn wrong_check(book: &[u8], n: usize) -> bool
     ensures { result ≡ wrong_check book.now n }
 {
     let b = Block::of(book, n);
-    let check = b.check();
-    check.wrapping_add(check) != b.full_sum().wrapping_add(number_in_check(n))
+    let check = word_at(b.bytes, 508);
+    check.wrapping_add(check) != b.full_sum().wrapping_add(n as u32 + 1)
 }
 
 // The first block whose check is wrong.

@@ -5,7 +5,6 @@ use mathlib.Core.List.{List, [], ◌∷◌, ◌++◌}
 use Prim.Native.Nat.{ℕ, zero, suc, ◌+◌, ◌/◌, ◌%◌, ◌^◌, ◌≤◌, ◌<◌}
 use native.Mathlib.Nat.{pow-zero, pow-suc}
 use native.Mathlib.Omega.{arith}
-use lib.ListN.{length, length-append}
 use borrow.Author.Tests.{lt-ltb, le-ltb}
 use Rattle.model.proofs.Tests.{below}
 use Rattle.std.specs.Fmt.{decimal}
@@ -35,26 +34,3 @@ decimal_number_in (suc k) x h u = go (below x 10) (decimal_number_in k (x / 10) 
 -- 64 bits take no more than 20 digits
 pub decimal_number : (x : ℕ) → x < 2 ^ 64 → decimal x ≡ number x
 decimal_number x h = decimal_number_in 19 x (omega arith) h
-
--- a number that k + 1 digits hold has no longer text
-number_in_short : (f k x : ℕ) → x < 10 ^ suc k → length (number_in f x) ≤ suc k
-unfolding number_in
-number_in_short zero k x h = omega arith
-number_in_short (suc f) zero x h = omega (arith, ap length (number_in_one f x (omega (arith, pow-suc 10 0, pow-zero 10))))
-number_in_short (suc f) (suc k) x h = go (below x 10) (number_in_short f k (x / 10) (omega (arith, pow-suc 10 (suc k))))
-  where
-    go : (x < 10) ⊎ (10 ≤ x) → length (number_in f (x / 10)) ≤ suc k → length (number_in (suc f) x) ≤ suc (suc k)
-    go (inl p) s = omega (arith, ap length (number_in_one f x p))
-    go (inr p) s = omega (arith, ap length (number_in_more f x p), length-append (number_in f (x / 10)) ((48 + x % 10) ∷ []))
-
--- 64 bits take no more than 20 digits
-pub number_short : (x : ℕ) → x < 2 ^ 64 → length (number x) ≤ 20
-number_short x h = number_in_short 20 19 x (omega arith)
-
--- a byte has at most three digits
-pub byte_short : (x : ℕ) → x < 256 → length (number x) ≤ 3
-byte_short x h = number_in_short 20 2 x (omega arith)
-
--- a number of 32 bits has at most ten
-pub word_short : (x : ℕ) → x < 2 ^ 32 → length (number x) ≤ 10
-word_short x h = number_in_short 20 9 x (omega arith)

@@ -22,7 +22,7 @@ use Rattle.model.specs.Stores.{IsStore, has}
 use Rattle.model.specs.Tests.{count, sum, tab}
 use Rattle.model.proofs.Choices.{get_or-pick, length-pick}
 use Rattle.model.proofs.Counting.{Numbered, counted_from, counted_most, counted_to}
-use Rattle.model.proofs.Masks.{bit_high, bit_of_zero, bit-or, bit_pow, bit_pow_other}
+use Rattle.model.proofs.Masks.{bit_below, bit_high, bit_of_zero, bit-or, bit_pow, bit_pow_other}
 use Rattle.model.proofs.Settling.{supported_iff}
 use Rattle.model.proofs.Tallies.{count_le, count_more, count_ones, count_same}
 use Rattle.model.proofs.Tests.{and_i, and_l, and_r, and_true, below, either, get_or-tab, length-tab, or_r, same_test, zeros_at}
@@ -116,6 +116,10 @@ none_above {k} {b} {s} {n} {W = W} {X = X} z h e = record {
 -- v is looked at: it goes into what is kept, or not
 pub record Keeping (C : List ℕ) (j choices d left keep : ℕ) : Type 0 where
   pub at : (v : ℕ) → bit v keep ≡ ((bit v d && not (bit v left)) && not (eqb (count_at C j v) choices))
+
+-- a value that is taken of those that are left
+pub value_left : {left rest d v : ℕ} → d < 2 ^ 32 → Part left d → Cleared left rest v → v < 32
+value_left {v = v} l p c = bit_below 32 _ v l (p.at v c.here)
 
 pub keeping_start : (C : List ℕ) (j choices d : ℕ) → Keeping C j choices d d 0
 keeping_start C j choices d = record { at = λ v. bit_of_zero v ∙ sym (ap (λ (t : Bool). t && not (eqb (count_at C j v) choices)) (never (bit v d))) }
@@ -327,18 +331,18 @@ module _ {b : List ℕ} {begin s : ℕ} (a : AtSheet b begin s) where
           ap not (ne_eqb (values_to b s W X j v (get_or N s 0)) (others_of x j) (λ z. omega (arith, q, c, o)))))
 
 -- ---- steps of the code
-ones_size : {x : List ℕ} → SmallSets x → (j : ℕ) → ones (get_or x j 0) ≡ size (get_or x j 0)
-ones_size {x} h j = sym (count_ones 32 (get_or x j 0) (h.fits j))
-
-pub others_made : {x : List ℕ} {a b c d : ℕ} → SmallSets x → a ≡ ones (get_or x 1 0) * ones (get_or x 2 0) * ones (get_or x 3 0)
-    → b ≡ ones (get_or x 0 0) * ones (get_or x 2 0) * ones (get_or x 3 0) → c ≡ ones (get_or x 0 0) * ones (get_or x 1 0) * ones (get_or x 3 0)
-    → d ≡ ones (get_or x 0 0) * ones (get_or x 1 0) * ones (get_or x 2 0) → Others x (a ∷ b ∷ c ∷ d ∷ [])
+pub others_made : {x : List ℕ} (z : List ℕ) {a b c d : ℕ} → SmallSets x → ((j : ℕ) → j < 4 → get_or z j 0 ≡ ones (get_or x j 0))
+    → a ≡ get_or z 1 0 * get_or z 2 0 * get_or z 3 0 → b ≡ get_or z 0 0 * get_or z 2 0 * get_or z 3 0
+    → c ≡ get_or z 0 0 * get_or z 1 0 * get_or z 3 0 → d ≡ get_or z 0 0 * get_or z 1 0 * get_or z 2 0 → Others x (a ∷ b ∷ c ∷ d ∷ [])
 unfolding others_of
-others_made {x} {a} {b} {c} {d} h ea eb ec ed =
+others_made {x} z {a} {b} {c} {d} h e ea eb ec ed =
     record {
       size = refl;
       at = λ j l.
           four_all (λ j. get_or (a ∷ b ∷ c ∷ d ∷ []) j 0 ≡ others_of x j)
-          (ea ∙ rw (ones_size h 1, ones_size h 2, ones_size h 3)) (eb ∙ rw (ones_size h 0, ones_size h 2, ones_size h 3))
-          (ec ∙ rw (ones_size h 0, ones_size h 1, ones_size h 3)) (ed ∙ rw (ones_size h 0, ones_size h 1, ones_size h 2)) j l;
+          (ea ∙ rw (same 1 (omega arith), same 2 (omega arith), same 3 (omega arith))) (eb ∙ rw (same 0 (omega arith), same 2 (omega arith), same 3 (omega arith)))
+          (ec ∙ rw (same 0 (omega arith), same 1 (omega arith), same 3 (omega arith))) (ed ∙ rw (same 0 (omega arith), same 1 (omega arith), same 2 (omega arith))) j l;
     }
+  where
+    same : (j : ℕ) → j < 4 → get_or z j 0 ≡ size (get_or x j 0)
+    same j l = e j l ∙ sym (count_ones 32 (get_or x j 0) (h.fits j))

@@ -53,10 +53,6 @@ loses_more {D} {E} {F} {a} {b} p q =
 
 -- ---- one place
 module _ {b : List ℕ} {begin s : ℕ} (j y : ℕ) {D : List ℕ} (a : AtSheet b begin s) (d : IsStore 16 D) where
-  -- a place past the width
-  pub struck_past : width_of b s ≤ j → StruckPlace b s j y D D 0
-  struck_past l = record { loses = loses_none d; struck = λ c v e. inl e; left = λ v m e. absurd (omega arith) }
-
   -- a column that keeps all its values
   pub struck_all : {c : ℕ} → c ≡ column_of b s j → bit_and (get_or D c 0) y ≡ get_or D c 0 → StruckPlace b s j y D D 0
   unfolding has
@@ -109,9 +105,6 @@ module _ {b : List ℕ} {begin s : ℕ} (j y : ℕ) {D : List ℕ} (a : AtSheet 
 
 -- ---- all places
 module _ {b : List ℕ} {s : ℕ} (y : List ℕ) {D : List ℕ} where
-  pub struck_none : IsStore 16 D → StruckTo b s 0 y D D 0
-  struck_none d = record { loses = loses_none d; struck = λ c v e. inl e; left = λ j v l m e. absurd (omega arith) }
-
   pub struck_more : {E F : List ℕ} {lost more : ℕ} (n : ℕ) → StruckTo b s n y D E lost → StruckPlace b s n (get_or y n 0) E F more
       → StruckTo b s (n + 1) y D F (bit_or lost more)
   struck_more {E} {F} n p q = record {

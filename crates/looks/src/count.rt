@@ -8,7 +8,7 @@ ghost use Rattle.heads.specs.Heads.{forbids_of, width_of};
 ghost use Rattle.words.specs.Sheets.{FindsSupported, SheetWords};
 ghost use Rattle.looks.specs.Counts.{CountsTo, Fewer, NoneAbove, NotFull, NotFullTo, Others};
 
-use cells::bits::*;
+use cells::bits::{Places, only};
 use words::index::Rows;
 use words::sheet::Sheet;
 
@@ -24,10 +24,7 @@ fn times(a: u32, b: u32, c: u32) -> u32
 fn choices_of(x: &[u32; 4]) -> [u32; 4]
     ensures { Others x.now result }
 {
-    let a = u32::count_ones(x[0]);
-    let b = u32::count_ones(x[1]);
-    let c = u32::count_ones(x[2]);
-    let d = u32::count_ones(x[3]);
+    let [a, b, c, d] = x.map(|set| set.count_ones());
     [
         times(b, c, d),
         times(a, c, d),
@@ -48,19 +45,11 @@ fn count_sheet(sheet: &Sheet<'_>, n: usize, rows: &Rows) -> [u32; 128]
     requires { SheetWords sheet.now.book.now sheet.now.number rows.now.valid rows.now.index rows.now.nonzero × (n ≡ get_or rows.now.nonzero sheet.now.number 0) }
     ensures { CountsTo (width_of sheet.now.book.now sheet.now.number) sheet.now.book.now sheet.now.number rows.now.valid rows.now.index n result }
 {
-    let s = sheet.number;
     let k = sheet.width();
     let mut counts = [0u32; 128];
     for p in 0..n {
-        let w = rows.word_number(s, p);
-        tally::counted(
-            sheet.book,
-            sheet.begin,
-            w,
-            rows.valid[8 * s + w],
-            k,
-            &mut counts,
-        );
+        let (w, word) = rows.word(sheet.number, p);
+        tally::counted(sheet.book, sheet.begin, w, word, k, &mut counts);
     }
     counts
 }
@@ -81,12 +70,9 @@ fn not_full(counts: &[u32; 128], j: usize, choices: u32, d: u32) -> u32
     requires { j < 4 }
     ensures { NotFull counts.now j choices d result }
 {
-    let mut left = d as u64;
     let mut keep: u32 = 0;
-    while left != 0 {
-        let v = lowest(left);
+    for v in Places::of(d as u64) {
         keep = with_value(keep, v, counts[32 * j + (v as usize)], choices);
-        left = without_lowest(left);
     }
     keep
 }

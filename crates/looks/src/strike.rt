@@ -1,7 +1,7 @@
 // Pass 2, second half: the columns of a sheet struck to the values with support; and the whole look at a sheet.
 ghost use Rattle.std.specs.Prelude.{◌≡◌, true, ◌<◌};
 ghost use Rattle.heads.specs.Heads.{forbids_of, width_of};
-ghost use Rattle.words.specs.Sheets.{FindsSupported, OnlySheet, RowsAre, RowsKnown, SheetWords};
+ghost use Rattle.words.specs.Sheets.{FindsSupported, OnlySheet, RowsAre, RowsKnown, SheetWords, Sized};
 ghost use Rattle.looks.specs.Strikes.{StruckPlace, StruckTo};
 ghost use Rattle.looks.specs.Looks.{Looked, SheetKnown, Struck};
 
@@ -85,7 +85,7 @@ pub fn revise(
     dom: &mut [u32; 16],
     rows: &mut Rows,
 ) -> Result<u32, u32>
-    requires { SheetKnown laid.now.sheet.book.now laid.now.sheet.number changed opening dom.old rows.old.valid rows.old.index rows.old.nonzero }
+    requires { SheetKnown laid.now.sheet.book.now laid.now.sheet.number changed opening dom.old rows.old.valid rows.old.index rows.old.nonzero × Sized rows.old.valid rows.old.index rows.old.nonzero }
     ensures { Looked laid.now.sheet.book.now laid.now.sheet.number dom.old rows.old.valid rows.old.index rows.old.nonzero dom.new rows.new.valid rows.new.index rows.new.nonzero result }
 {
     let sheet = laid.sheet;

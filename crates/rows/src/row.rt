@@ -13,8 +13,9 @@
 //     row     3       255     0       0           two values, V = 4 and 7
 //     turned  4       0       0       0           one of 128 or more is over its bound; where none is, the sum is as above
 //     slack   128-5   128-8   128-1   128-1
-ghost use Rattle.std.specs.Prelude.{◌≡◌, ◌+◌, ◌-◌, ◌*◌, ◌/◌, ◌%◌, ◌^◌, ◌<◌, ◌≤◌, bit_or, nat_lt};
+ghost use Rattle.std.specs.Prelude.{◌≡◌, ℕ, ◌+◌, ◌-◌, ◌*◌, ◌/◌, ◌%◌, ◌^◌, ◌<◌, ◌≤◌, bit_or, nat_lt};
 ghost use Rattle.model.specs.Tests.{Finds, NoneIn, one_if};
+ghost use Rattle.fields.specs.Bytes.{byte_at};
 ghost use Rattle.heads.specs.Blocks.{RightLength, block_count, word};
 ghost use Rattle.heads.specs.Heads.{sheets_of, RightHead};
 ghost use Rattle.rows.specs.Rows.{any_places, blocks_of, first_block, blocks_needed, over_at};
@@ -29,7 +30,7 @@ pub fn blocks_of(h: &Head<'_>, s: usize) -> usize
     requires { s < 8 }
     ensures { (result ≡ blocks_of h.now.bytes.now s) × (result ≤ 517) }
 {
-    (h.rows(s) + 126) / 127
+    h.rows(s).div_ceil(127)
 }
 
 // The block in which the rows of sheet s begin.
@@ -37,7 +38,11 @@ pub fn first_block(h: &Head<'_>, s: usize) -> usize
     requires { s ≤ 8 }
     ensures { (result ≡ first_block h.now.bytes.now s) × (result < 65536) }
 {
-    1 + (0..s).map(|t| blocks_of(h, t)).sum::<usize>()
+    let mut n: usize = 1;
+    for t in 0..s {
+        n += blocks_of(h, t);
+    }
+    n
 }
 
 // The blocks that the head and the sheets need; there are at most eight sheets.
@@ -78,7 +83,7 @@ impl<'a> Whole<'a> {
 // What the four bytes of a used row have to be below; at the first k of them 255 passes.
 #[derive(Clone, Copy)]
 pub struct Bounds {
-    // Four fields and no array: the definitions of specs/Bounds.antt take the four one by one.
+    // Not an array: `RowBounds`, `over_bounds` and `wrong_in` (specs/Bounds.antt) take the four one by one.
     pub w: u8,
     pub x: u8,
     pub y: u8,
@@ -93,10 +98,10 @@ fn place_bound(h: &Head<'_>, s: usize, j: usize) -> u8
     ensures { (result ≡ place_bound h.now.bytes.now s j) × (1 ≤ result) × (result ≤ 127) }
 {
     if j < h.width(s) {
-        let c = h.column(s, j);
-        return h.bytes[8 + c];
+        h.bytes[8 + h.column(s, j)]
+    } else {
+        1
     }
-    1
 }
 
 // At how many places of a row 255 passes: at all of the width, but at none in a forbidden sheet.
@@ -156,15 +161,20 @@ impl Bounds {
     }
 
     // Whether each byte of v is below its bound.
-    fn all_above(self, v: u32) -> bool
+    fn below_bounds(self, v: u32) -> bool
         ensures { result ≡ below_bounds self.w self.x self.y self.z v }
     {
         let [p, q, r, s] = v.to_le_bytes();
-        p < self.w && q < self.x && r < self.y && s < self.z
+        (p < self.w) & (q < self.x) & (r < self.y) & (s < self.z)
     }
 }
 
 // ---- rows over their bounds
+
+// That the numbers of a list are bytes: the prover knows it only of a list that is an argument itself. No code.
+fn are_bytes(bytes: &[u8])
+    ensures { (i : ℕ) → byte_at bytes.now i < 256 }
+{}
 
 // f of each row of a block, joined by `|`. The loop takes all 127 rows and uses each once, so that the compiler reads four of them at a time.
 fn joined<F: Fn(u32) -> u32>(b: &Block<'_>, f: F) -> u32
@@ -189,7 +199,7 @@ pub fn joined_rows(b: &Block<'_>) -> u32
 fn any_high(v: u32) -> bool
     ensures { result ≡ any_high v }
 {
-    v & 2155905152 != 0
+    v & 0x8080_8080 != 0
 }
 
 // Whether a row of a block has a byte that is 128 or more once k is added.
@@ -204,11 +214,9 @@ fn any_raised(b: &Block<'_>, k: u32) -> bool
 pub fn any_not_below(b: &Block<'_>, m: Bounds) -> bool
     ensures { Finds (over_bounds m.w m.x m.y m.z 0 b.now.bytes.now) 0 127 result }
 {
+    are_bytes(b.bytes);
     let v = joined_rows(b);
-    if m.all_above(v) {
-        return false;
-    }
-    any_high(v) || any_raised(b, m.slack())
+    !m.below_bounds(v) && (any_high(v) || any_raised(b, m.slack()))
 }
 
 // ---- rows turned
@@ -218,7 +226,7 @@ fn turn(v: u32, o: u32) -> u32
     requires { SmallTurn o }
     ensures { result ≡ turned o v }
 {
-    ((v & 2139062143) + o) ^ (v & 2155905152)
+    ((v & 0x7f7f_7f7f) + o) ^ (v & 0x8080_8080)
 }
 
 // Row v turned by o, joined with the same once `slack` is added: a byte of it is 128 or more where one of the two has such a byte.
@@ -245,6 +253,7 @@ pub fn any_over(b: &Block<'_>, m: Bounds) -> bool
     if m.k == 0 {
         return any_not_below(b, m);
     }
+    are_bytes(b.bytes);
     let o = m.turn();
     any_turned(b, o, m.slack() - o)
 }
@@ -254,12 +263,10 @@ pub fn rows_under(b: &Block<'_>, m: Bounds, n: usize) -> usize
     requires { n ≤ 127 }
     ensures { (result ≤ n) × NoneIn (over_bounds m.w m.x m.y m.z m.k b.now.bytes.now) 0 result }
 {
+    are_bytes(b.bytes);
     let o = m.turn();
     let slack = m.slack() - o;
-    for r in 0..n {
-        if any_high(turned_twice(word_at(b.bytes, 4 * r), o, slack)) {
-            return r;
-        }
-    }
-    n
+    (0..n)
+        .find(|r| any_high(turned_twice(word_at(b.bytes, 4 * *r), o, slack)))
+        .unwrap_or(n)
 }

@@ -21,7 +21,7 @@ use Rattle.model.proofs.Tests.{all_below_last, and_assoc, and_l, and_true, below
 use Rattle.heads.specs.Heads.{column_of, rows_of}
 use Rattle.counters.specs.Counters.{near_place}
 use Rattle.cells.specs.Cells.{Kept, KeptInside, Readable, row_inside}
-use Rattle.words.specs.Sheets.{AtSheet, CutBy, IndexOf, Inside, OnlySheet, SheetWords, Sized, WordCut, WordKept, is_set, passes_at, passes_below, swapped, value_at, value_in}
+use Rattle.words.specs.Sheets.{AtSheet, CutBy, IndexOf, Inside, OnlySheet, SheetWords, Sized, WordCut, WordKept, WordThere, is_set, passes_at, passes_below, swapped, value_at, value_in}
 use Rattle.words.proofs.Indexes.{Where, index_dropped, index_kept, left, length-swapped, names_other, neither, of_set_other, of_set_same, of_swapped, of_swapped_other, other, other_left, other_lt, other_rest, other_right, past_limit, right, set_below, where_is}
 use Rattle.words.proofs.Places.{block_there, cell_is, cell_there}
 
@@ -68,6 +68,11 @@ word_at {b} {begin} {s} a {W} {X} {N} h {p} {w} l e k =
     let m : p < 8 = omega (arith, h.indexed.few) in
     let f : of_sheet W s w < 2 ^ 64 = h.sized.bits (8 * s + w) in
     (word_readable a W h.inside w k f, word_there a W h.inside w k f (rw e ((h.indexed.limit p m).0 l)))
+
+-- with its rows
+pub there_at : {b : List ℕ} {begin s : ℕ} → AtSheet b begin s → {W X N : List ℕ} → SheetWords b s W X N → {p w x : ℕ} → p < get_or N s 0
+    → (w ≡ of_sheet X s p) × (x ≡ of_sheet W s w) × (w < 8) → WordThere b begin w x
+there_at a h l e = let q = word_at a h l e.0 e.2 in record { few = e.2; rows = rw e.1 q.0; near = q.1 }
 
 -- ---- what concerns one sheet alone
 pub only_same : {s : ℕ} {W X N : List ℕ} → OnlySheet s W X N W X N

@@ -12,7 +12,8 @@ use Rattle.book.specs.Decoding.{book_of}
 use Rattle.heads.specs.Heads.{column_of, rows_of, sheets_of, width_of}
 use Rattle.rows.specs.Rows.{first_block}
 use Rattle.book.specs.Verdicts.{Accepted}
-use Rattle.cells.specs.Cells.{SmallSets, cell_at}
+use Rattle.counters.specs.Counters.{near_place}
+use Rattle.cells.specs.Cells.{Readable, SmallSets, cell_at}
 
 -- ---- the rows of a sheet
 -- the byte at which the rows of sheet s begin
@@ -73,6 +74,16 @@ swapped xs i j = set (set xs i (get_or xs j 0)) j (get_or xs i 0)
 pub record WordKept (test : ℕ → Bool) (w x y : ℕ) : Type 0 where
   pub at : (k : ℕ) → bit k y ≡ (bit k x && test (64 * w + k))
 
+-- x are rows of word w of a sheet, which is there with them
+pub record WordThere (b : List ℕ) (begin w x : ℕ) : Type 0 where
+  pub few : w < 8
+  pub rows : Readable b begin (64 * w) x
+  pub near : near_place begin w + 239 < length b
+
+-- what is given for a word of a sheet is what is kept of it by a test; `gives w x y` says that y may be given for the rows x of word w
+pub record Keeps (b : List ℕ) (begin : ℕ) (gives : ℕ → ℕ → ℕ → Type 0) (test : ℕ → Bool) : Type 0 where
+  pub at : (w x y : ℕ) → WordThere b begin w x → gives w x y → WordKept test w x y
+
 -- the word at position p of the index is cut to the rows that pass a test. If it is zero then, it goes past the limit: positions from p on may
 -- change places, and those before p stay
 pub record WordCut (test : ℕ → Bool) (s p : ℕ) (W X N W' X' N' : List ℕ) : Type 0 where
@@ -126,11 +137,6 @@ pub record PlainSeen (b : List ℕ) (s : ℕ) (W y : List ℕ) : Type 0 where
   pub small : SmallSets y
   pub sound : (j v : ℕ) → j < 4 → bit v (get_or y j 0) ≡ true → SetSupport b s W j v
   pub cells : (r j : ℕ) → r < 512 → j < 4 → is_set W s r ≡ true → bit (value_at b s r j % 32) (get_or y j 0) ≡ true
-
--- every value of x with support has been seen, or every row's cell
-pub record SeenOr (b : List ℕ) (s : ℕ) (W x y : List ℕ) (all : Bool) : Type 0 where
-  pub covers : all ≡ true → Supported b s W x y
-  pub plain : all ≡ false → PlainSeen b s W y
 
 -- besides, y has every value of x with support at the places below n
 pub record Widened (b : List ℕ) (s : ℕ) (W x y : List ℕ) (n : ℕ) : Type 0 where

@@ -1,29 +1,26 @@
 use Prim.Native.Nat.{◌*◌, ◌+◌}
 use native.Mathlib.Omega.{arith}
 use borrow.Author.Rules.{rules}
-use Rattle.model.proofs.Masks.{cleared_at}
 use Rattle.cells.proofs.Collects.{of_all, of_none, of_turn, passed_start}
-use Rattle.cells.proofs.Stretches.{row_set}
-use Rattle.cells.proofs.Walks.{whole}
+use Rattle.cells.proofs.Stretches.{row_sets, stands_at, turn_row}
+use Rattle.cells.proofs.Walks.{all_left, whole}
 use Rattle.cells.proofs.walk.gathered_set.Goals as goal
 
-pub loop-left-init : goal.loop-left-init
-loop-left-init c = (of_none _ _ (passed_start _), whole _)
+pub loop-i-init : goal.loop-i-init
+loop-i-init g c = rw (all_left _ _ c.into_iter-i-iterator.ensures.into_iter_gives c.of-i-items.ensures) (of_none _ _ (passed_start _), whole _, c.requires.1)
 
-pub at_near-requires : goal.at_near-requires
-at_near-requires c = let e = c.loop-left.invariant.1.at _ c.lowest-i.ensures.2 in
-    let z = c.requires.there _ e in
-    (c.requires.stands, c.requires.in_word _ e, c.requires.in_block _ e, search (rules, z))
+pub on-requires : goal.on-requires
+on-requires g c = let z = turn_row c.requires.0 c.loop-i.invariant.1 c.in-Some.ensures.steps in
+    (z.0, z.1, search (rules, z))
 
-pub with_row-g-requires : goal.with_row-g-requires
-with_row-g-requires c = let z = c.requires.there _ (c.loop-left.invariant.1.at _ c.lowest-i.ensures.2) in
-    omega (arith, z, c.at_near.ensures.place)
+pub add_row-requires : goal.add_row-requires
+add_row-requires g c = let z = turn_row c.requires.0 c.loop-i.invariant.1 c.in-Some.ensures.steps in
+    (omega (arith, z, stands_at c.args.p c.on.result c.in-Some.i c.requires.0.first c.on.ensures, c.requires.0.first), c.loop-i.invariant.2)
 
-pub loop-left-preserved : goal.loop-left-preserved
-loop-left-preserved c = let w = c.with_row-g.ensures in
-    let set = row_set c.args.book.now c.args.p.begin (64 * c.args.p.word + c.lowest-i.result) c.at_near.ensures.place in
-    of_turn _ _ _ _ _ _ _ _ _ c.loop-left.invariant.1 (cleared_at c.lowest-i.ensures.0 c.without_lowest-left.ensures.0) c.loop-left.invariant.0
-    (set c.loop-left.g.a _ 0 w.0) (set c.loop-left.g.b _ 1 w.1) (set c.loop-left.g.c _ 2 w.2) (set c.loop-left.g.d _ 3 w.3)
+pub loop-i-preserved : goal.loop-i-preserved
+loop-i-preserved g c = let at = stands_at c.args.p c.on.result c.in-Some.i c.requires.0.first c.on.ensures in
+    let t = of_turn _ c.loop-i.invariant.1 c.in-Some.ensures.steps.cleared c.loop-i.invariant.0 (row_sets c.args.p.begin (64 * c.args.p.word + c.in-Some.i) at c.add_row.ensures.0) in
+    (t.0, t.1, c.add_row.ensures.1)
 
 pub returns : goal.returns
-returns c = of_all _ c.args.word c.loop-left-test.false c.loop-left.invariant.0
+returns g c = (of_all _ c.args.word c.in-None.ensures.steps.0 c.loop-i.invariant.0, c.loop-i.invariant.2)

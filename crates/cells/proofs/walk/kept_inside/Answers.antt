@@ -1,8 +1,9 @@
+use Rattle.cells.proofs.Stretches.{far_stretch}
 use Rattle.cells.proofs.walk.kept_inside.Goals as goal
 
 pub inside_rows-requires : goal.inside_rows-requires
 inside_rows-requires c = let p = c.at_word.ensures in
-    (p.2, rw (p.0, p.1) c.requires.1)
+    far_stretch p.2 c.ranges.word.fits (rw (p.0, p.1) c.requires.1)
 
 pub returns : goal.returns
 returns c = let p = c.at_word.ensures in

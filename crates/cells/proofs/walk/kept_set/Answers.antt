@@ -1,31 +1,31 @@
 use mathlib.Core.Path.{◌∙◌}
-use Prim.Native.Nat.{◌*◌, ◌+◌}
 use native.Mathlib.Omega.{arith}
 use borrow.Author.Rules.{rules}
-use Rattle.model.proofs.Masks.{cleared_at}
-use Rattle.cells.proofs.Stretches.{row_cell}
-use Rattle.cells.proofs.Walks.{cell_in_lem, kept_end, part_cleared, walked_start, walked_turn, whole}
+use Rattle.cells.proofs.Stretches.{row_cell, stands_at, turn_row}
+use Rattle.cells.proofs.Walks.{all_left, cell_in_lem, kept_end, part_cleared, walked_start, walked_turn, whole}
 use Rattle.cells.proofs.walk.kept_set.Goals as goal
 
-pub loop-left-init : goal.loop-left-init
-loop-left-init c = (walked_start _ _, whole _)
+pub loop-i-init : goal.loop-i-init
+loop-i-init g c = rw (all_left _ _ c.into_iter-i-iterator.ensures.into_iter_gives c.of-i-items.ensures) (walked_start _ _, whole _)
 
-pub at_near-requires : goal.at_near-requires
-at_near-requires c = let e = c.loop-left.invariant.1.at _ c.lowest-i.ensures.2 in
-    let z = c.requires.1.there _ e in
-    (c.requires.1.stands, c.requires.1.in_word _ e, c.requires.1.in_block _ e, search (rules, z))
+pub on-requires : goal.on-requires
+on-requires g c = let z = turn_row c.requires.1 c.loop-i.invariant.1 c.in-Some.ensures.steps in
+    (z.0, z.1, search (rules, z))
 
 pub overflow_add-at : goal.overflow_add-at
-overflow_add-at c = let z = c.requires.1.there _ (c.loop-left.invariant.1.at _ c.lowest-i.ensures.2) in
-    search (rules, z, c.at_near.ensures.place, c.requires.0)
+overflow_add-at g c = let z = turn_row c.requires.1 c.loop-i.invariant.1 c.in-Some.ensures.steps in
+    let at = stands_at c.args.p c.on.result c.in-Some.i c.requires.1.first c.on.ensures in
+    search (rules, z, at, c.requires.0, c.requires.1.first)
 
 pub bounds-book-at : goal.bounds-book-at
-bounds-book-at c = let z = c.requires.1.there _ (c.loop-left.invariant.1.at _ c.lowest-i.ensures.2) in
-    omega (arith, z, c.at_near.ensures.place, c.requires.0)
+bounds-book-at g c = let z = turn_row c.requires.1 c.loop-i.invariant.1 c.in-Some.ensures.steps in
+    let at = stands_at c.args.p c.on.result c.in-Some.i c.requires.1.first c.on.ensures in
+    omega (arith, z, at, c.requires.0, c.requires.1.first)
 
-pub loop-left-preserved : goal.loop-left-preserved
-loop-left-preserved c = let t = cleared_at c.lowest-i.ensures.0 c.without_lowest-left.ensures.0 in
-    (walked_turn c.loop-left.invariant.0 t c.has.ensures.1 c.lowest-i.ensures.1 (cell_in_lem _ _ _ _ _ _ _ _ (c.wide32-v.ensures ∙ row_cell c.args.book.now _ (64 * c.args.p.word + c.lowest-i.result) _ c.at_near.ensures.place) c.has.ensures.0), part_cleared t c.loop-left.invariant.1)
+pub loop-i-preserved : goal.loop-i-preserved
+loop-i-preserved g c = let t = c.in-Some.ensures.steps in
+    let at = stands_at c.args.p c.on.result c.in-Some.i c.requires.1.first c.on.ensures in
+    (walked_turn c.loop-i.invariant.0 t.cleared c.has.ensures.1 t.few (cell_in_lem _ _ _ _ _ _ _ _ (c.wide32-v.ensures ∙ row_cell c.args.book.now _ _ _ at) c.has.ensures.0), part_cleared t.cleared c.loop-i.invariant.1)
 
 pub returns : goal.returns
-returns c = kept_end (rw c.loop-left-test.false at c.loop-left.invariant.0)
+returns g c = kept_end (rw c.in-None.ensures.steps.0 at c.loop-i.invariant.0)

@@ -1,6 +1,5 @@
-use native.Mathlib.Omega.{arith}
 use Rattle.counters.proofs.Counters.{first_rows}
 use Rattle.counters.proofs.counter.first_rows.Goals as goal
 
 pub returns : goal.returns
-returns c = first_rows c.args.word c.args.n (omega (arith, c.requires.1))
+returns c = first_rows c.args.word c.args.n c.requires.1

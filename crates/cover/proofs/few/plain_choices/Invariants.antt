@@ -1,10 +1,6 @@
 use mathlib.Core.Path.{◌≡◌}
-use Prim.Native.Nat.{◌-◌, ◌≤◌}
 use Rattle.cover.specs.Covers.{plain_in}
 use Rattle.cover.proofs.few.plain_choices.Given as goal
 
 abbrev pub invariant-loop-j : goal.invariant-loop-j
-invariant-loop-j l = (l.n ≡ plain_in l.book l.s l.shorts l.sizes l.j) × (l.j ≤ l.k)
-
-abbrev pub decreases-loop-j : goal.decreases-loop-j
-decreases-loop-j l = l.k - l.j
+invariant-loop-j l = l.n ≡ plain_in l.book l.s l.shorts l.sizes l.j

@@ -10,13 +10,10 @@ use Rattle.words.proofs.Indexes.{rows_most}
 use Rattle.cover.specs.Covers.{plain_in}
 use Rattle.cover.proofs.few.too_few.Goals as goal
 
-pub nonzero_words-n-requires : goal.nonzero_words-n-requires
-nonzero_words-n-requires c = eight c.requires.0
-
 pub returns-then-n-choices : goal.returns-then-n-choices
 returns-then-n-choices c = let a = c.args in
-    let n = get_or a.nonzero.now a.s 0 in
-    let l : rows_to a.valid.now a.index.now a.s n < plain_in a.book.now a.s a.shorts a.sizes.now (width_of a.book.now a.s) =
+    let n = get_or a.rows.now.nonzero a.s 0 in
+    let l : rows_to a.rows.now.valid a.rows.now.index a.s n < plain_in a.book.now a.s a.shorts a.sizes.now (width_of a.book.now a.s) =
     omega (
       arith,
       rows_most c.requires.2 a.s n,
@@ -27,8 +24,4 @@ returns-then-n-choices c = let a = c.args in
     sym (lt-ltb _ _ l)
 
 pub set_rows-requires : goal.set_rows-requires
-set_rows-requires c = let p = c.requires in
-    (eight p.0, p.2, p.3, omega (arith, c.nonzero_words-n.ensures.0))
-
-pub returns : goal.returns
-returns c = rw (c.set_rows.ensures, c.nonzero_words-n.ensures.0, c.plain_choices-choices.ensures.0)
+set_rows-requires c = (eight c.requires.0, c.requires.3, omega (arith, c.nonzero_words-n.ensures.0))

@@ -1,25 +1,22 @@
-use borrow.Author.Rules.{rules}
-use mathlib.Core.Path.{refl}
-use Rattle.model.proofs.Masks.{bit_below, cleared_at}
-use Rattle.cover.proofs.Covers.{each_matched, every_matched, no_rows, one_missed, tried_all, tried_start, tried_turn}
+use Rattle.model.proofs.Masks.{bit_below}
+use Rattle.cells.proofs.Walks.{all_left}
+use Rattle.cover.proofs.Covers.{each_matched, every_matched, one_missed, tried_all, tried_start, tried_turn}
 use Rattle.cover.proofs.test.all_matched.Goals as goal
 
-pub overflow_cast-left : goal.overflow_cast-left
-overflow_cast-left c = let k = c.requires.2.fits 3 in search (rules, k)
-
-pub loop-left-init : goal.loop-left-init
-loop-left-init c = tried_start refl
+pub loop-v-init : goal.loop-v-init
+loop-v-init c = tried_start (all_left _ _ c.into_iter-v-iterator.ensures.into_iter_gives c.of-v-items.ensures)
 
 pub put_sheet-requires : goal.put_sheet-requires
-put_sheet-requires c = (c.requires.0, c.requires.1, bit_below 32 _ _ (c.requires.2.fits 3) (c.loop-left.invariant.part.at _ c.lowest-v.ensures.2), no_rows)
+put_sheet-requires c = (c.requires, bit_below 32 _ _ (c.fits-x 3) (c.loop-v.invariant.part.at _ c.in-Some.ensures.steps.cleared.here))
 
 pub returns-then-not-allows_all : goal.returns-then-not-allows_all
-returns-then-not-allows_all c = one_missed c.requires.0 c.requires.1 c.lowest-v.result c.put_sheet.ensures c.requires.2 c.allows_all.ensures (c.if-not-allows_all.true)
-    (c.loop-left.invariant.part.at _ c.lowest-v.ensures.2)
+returns-then-not-allows_all c =
+    one_missed c.args.sheet.now.at c.requires c.in-Some.v c.put_sheet.ensures (record { size = c.told-x; fits = c.fits-x }) c.allows_all.ensures c.if-not-allows_all.true
+    (c.loop-v.invariant.part.at _ c.in-Some.ensures.steps.cleared.here)
 
-pub loop-left-preserved : goal.loop-left-preserved
-loop-left-preserved c = tried_turn c.loop-left.invariant (cleared_at c.lowest-v.ensures.0 c.without_lowest-left.ensures.0)
-    (each_matched c.requires.0 c.requires.1 c.lowest-v.result c.put_sheet.ensures c.requires.2 c.allows_all.ensures (c.if-not-allows_all.false))
+pub loop-v-preserved : goal.loop-v-preserved
+loop-v-preserved c = tried_turn c.loop-v.invariant c.in-Some.ensures.steps.cleared
+    (each_matched c.args.sheet.now.at c.requires c.in-Some.v c.put_sheet.ensures (record { size = c.told-x; fits = c.fits-x }) c.allows_all.ensures c.if-not-allows_all.false)
 
 pub returns : goal.returns
-returns c = every_matched (tried_all c.loop-left-test.false c.loop-left.invariant)
+returns c = every_matched (tried_all c.in-None.ensures.steps.0 c.loop-v.invariant)

@@ -1,26 +1,21 @@
-use borrow.Author.Rules.{rules}
-use mathlib.Core.Path.{refl}
-use Rattle.model.proofs.Masks.{bit_below, bit_pow, bit_pow_only, cleared_at}
+use Rattle.model.proofs.Masks.{bit_below, bit_pow, bit_pow_only}
+use Rattle.cells.proofs.Walks.{all_left}
 use Rattle.cover.proofs.Covers.{all_allowed, not_allowed, tried_all, tried_start, tried_turn}
 use Rattle.cover.proofs.test.allows_all.Goals as goal
 
-pub overflow_cast-left : goal.overflow_cast-left
-overflow_cast-left c = let k = c.requires.1.fits 2 in search (rules, k)
-
-pub loop-left-init : goal.loop-left-init
-loop-left-init c = tried_start refl
+pub loop-c-init : goal.loop-c-init
+loop-c-init c = tried_start (all_left _ _ c.into_iter-c-iterator.ensures.into_iter_gives c.of-c-items.ensures)
 
 pub allows_with-requires : goal.allows_with-requires
-allows_with-requires c = (c.requires.0, c.requires.1, bit_below 32 _ _ (c.requires.1.fits 2) (c.loop-left.invariant.part.at _ c.lowest-c.ensures.2))
+allows_with-requires c = bit_below 32 _ _ (c.fits-x 2) (c.loop-c.invariant.part.at _ c.in-Some.ensures.steps.cleared.here)
 
 pub returns-then-not-allows_with : goal.returns-then-not-allows_with
-returns-then-not-allows_with c = let r = c.allows_with.ensures.no (c.if-not-allows_with.true) in
-    let q = c.loop-left.invariant.part.at _ c.lowest-c.ensures.2 in
+returns-then-not-allows_with c = let r = c.allows_with.ensures.no c.if-not-allows_with.true in
+    let q = c.loop-c.invariant.part.at _ c.in-Some.ensures.steps.cleared.here in
     not_allowed r.0 r.1 r.2 r.3 r.4 (rw (bit_pow_only _ r.2 r.5) q) r.6
 
-pub loop-left-preserved : goal.loop-left-preserved
-loop-left-preserved c = tried_turn c.loop-left.invariant (cleared_at c.lowest-c.ensures.0 c.without_lowest-left.ensures.0)
-    (λ e q a r. c.allows_with.ensures.yes (c.if-not-allows_with.false) a e _ r q (bit_pow _))
+pub loop-c-preserved : goal.loop-c-preserved
+loop-c-preserved c = tried_turn c.loop-c.invariant c.in-Some.ensures.steps.cleared (λ e q a r. c.allows_with.ensures.yes c.if-not-allows_with.false a e _ r q (bit_pow _))
 
 pub returns : goal.returns
-returns c = all_allowed (tried_all c.loop-left-test.false c.loop-left.invariant)
+returns c = all_allowed (tried_all c.in-None.ensures.steps.0 c.loop-c.invariant)

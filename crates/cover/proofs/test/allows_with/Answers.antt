@@ -1,13 +1,13 @@
-use mathlib.Core.Path.{◌≡◌, refl}
+use mathlib.Core.Path.{◌≡◌}
 use mathlib.Core.Bool.{false, true}
 use mathlib.Core.List.{List}
 use Prim.Native.Nat.{◌*◌, ◌+◌, ◌-◌, ◌<◌, ◌^◌, ℕ}
 use native.Mathlib.Omega.{arith}
 use lib.Bits.{bit_and, bit_or}
 use lib.ListN.{get_or}
-use borrow.Author.Rules.{rules}
 use Rattle.model.specs.Masks.{bit}
-use Rattle.model.proofs.Masks.{bit_below, bit_pow, bit_pow_only, cleared_at, ones32}
+use Rattle.model.proofs.Masks.{bit_below, bit_pow, bit_pow_only, ones32}
+use Rattle.cells.proofs.Walks.{all_left}
 use Rattle.cover.specs.Covers.{IsTable, allowed_with}
 use Rattle.cover.proofs.Covers.{all_allowed, allowed_small, none_outside, not_allowed, some_outside, tried_all, tried_start, tried_turn}
 use Rattle.cover.proofs.test.allows_with.Goals as goal
@@ -25,25 +25,21 @@ inside : (T x : List ℕ) (c e : ℕ) → get_or x 0 0 < 2 ^ 32 → IsTable T
 unfolding allowed_with
 inside T x c e l h z = none_outside (get_or x 0 0) (allowed_with T c e) l (allowed_small T c e h) z
 
-pub overflow_cast-left : goal.overflow_cast-left
-overflow_cast-left c = let k = c.requires.1.fits 1 in search (rules, k)
-
-pub loop-left-init : goal.loop-left-init
-loop-left-init c = tried_start refl
+pub loop-e-init : goal.loop-e-init
+loop-e-init c = tried_start (all_left _ _ c.into_iter-e-iterator.ensures.into_iter_gives c.of-e-items.ensures)
 
 pub bounds-table-e : goal.bounds-table-e
-bounds-table-e c = omega (arith, bit_below 32 _ _ (c.requires.1.fits 1) (c.loop-left.invariant.part.at _ c.lowest-e.ensures.2))
+bounds-table-e c = omega (arith, bit_below 32 _ _ (c.fits-x 1) (c.loop-e.invariant.part.at _ c.in-Some.ensures.steps.cleared.here))
 
 pub returns-then-wanted-any-ne0 : goal.returns-then-wanted-any-ne0
-returns-then-wanted-any-ne0 c = let T = c.args.table.now in
-    let e = c.lowest-e.result in
-    let q = c.loop-left.invariant.part.at _ c.lowest-e.ensures.2 in
-    let r = outside T c.args.x.now c.args.c e (c.requires.1.fits 0) c.requires.0 c.if-wanted-any-ne0.true in
-    not_allowed r.0 e c.args.c r.1 q (bit_pow c.args.c) r.2
+returns-then-wanted-any-ne0 c =
+    let q = c.loop-e.invariant.part.at _ c.in-Some.ensures.steps.cleared.here in
+    let r = outside c.args.table.now c.args.x.now c.args.c c.in-Some.e (c.fits-x 0) (record { size = c.told-table; fits = c.fits-table }) c.if-wanted-any-ne0.true in
+    not_allowed r.0 c.in-Some.e c.args.c r.1 q (bit_pow c.args.c) r.2
 
-pub loop-left-preserved : goal.loop-left-preserved
-loop-left-preserved c = tried_turn c.loop-left.invariant (cleared_at c.lowest-e.ensures.0 c.without_lowest-left.ensures.0)
-    (inside c.args.table.now c.args.x.now c.args.c c.lowest-e.result (c.requires.1.fits 0) c.requires.0 c.if-wanted-any-ne0.false)
+pub loop-e-preserved : goal.loop-e-preserved
+loop-e-preserved c = tried_turn c.loop-e.invariant c.in-Some.ensures.steps.cleared
+    (inside c.args.table.now c.args.x.now c.args.c c.in-Some.e (c.fits-x 0) (record { size = c.told-table; fits = c.fits-table }) c.if-wanted-any-ne0.false)
 
 pub returns : goal.returns
-returns c = all_allowed (λ d p e q a r. rw (bit_pow_only c.args.c d p) (tried_all c.loop-left-test.false c.loop-left.invariant e q a r))
+returns c = all_allowed (λ d p e q a r. rw (bit_pow_only c.args.c d p) (tried_all c.in-None.ensures.steps.0 c.loop-e.invariant e q a r))

@@ -1,20 +1,14 @@
-use mathlib.Core.Path.{◌≡◌, sym}
-use mathlib.Core.Bool.{false≢true, true}
-use Prim.Native.Nat.{◌+◌, ◌-◌}
-use native.Mathlib.Omega.{arith}
-use Rattle.words.proofs.Cuts.{cutting_end, cutting_words, cutting_more, cutting_start}
-use Rattle.words.proofs.Places.{eight}
+use borrow.Author.Rules.{rules}
+use Rattle.cells.specs.Cells.{row_inside}
+use Rattle.words.proofs.Cuts.{word_inside}
 use Rattle.words.proofs.cut.cut_inside.Goals as goal
 
-pub nonzero_words-p-requires : goal.nonzero_words-p-requires
-nonzero_words-p-requires c = eight c.requires.0
-
-pub loop-p-init : goal.loop-p-init
-loop-p-init c = (cutting_start _ c.requires.1 c.nonzero_words-p.ensures.0, c.requires.1)
-
-pub loop-p-preserved : goal.loop-p-preserved
-loop-p-preserved c = let e : c.loop-p.p ≡ c.loop-p.p - 1 + 1 = omega (arith, c.loop-p-test.true) in
-    let h = cutting_more {r = true} (rw e at c.loop-p.invariant.0) c.cut_word_inside.ensures (λ e. absurd (false≢true (sym e))) in (h, cutting_words h c.requires.1)
+pub cut-requires : goal.cut-requires
+cut-requires c = (
+  c.requires,
+  λ w x t. search rules,
+  (row_inside c.args.sheet.now.book.now c.args.sheet.now.begin c.args.x.now, record { at = λ w x y t g. search (rules, word_inside) }),
+)
 
 pub returns : goal.returns
-returns c = let e : c.loop-p.p ≡ 0 = omega (arith, c.loop-p-test.false) in cutting_end (rw e at c.loop-p.invariant.0)
+returns c = c.cut.ensures.0 _ record { at = λ w x y t g. search (rules, word_inside) }

@@ -1,37 +1,35 @@
-use mathlib.Core.Path.{refl}
-use Prim.Native.Nat.{◌<◌}
+use mathlib.Core.Path.{refl, sym}
+use mathlib.Core.Bool.{false≢true}
 use native.Mathlib.Omega.{arith}
-use borrow.Author.Rules.{rules}
-use Rattle.words.proofs.Cuts.{word_at, word_kept}
+use Rattle.words.proofs.Cuts.{there_at, word_less, word_uncut, word_zero}
 use Rattle.words.proofs.Places.{eight}
 use Rattle.words.proofs.cut.cut_word.Goals as goal
 
-pub word_number-w-requires : goal.word_number-w-requires
-word_number-w-requires c = let l : c.args.p < 8 = omega (arith, c.requires.2.indexed.few, c.requires.3) in
-    (eight c.requires.0, l, c.requires.2.indexed.each _ l)
+pub keep-left-requires : goal.keep-left-requires
+keep-left-requires g c = let p = c.requires in p.2 _ _ (there_at c.args.sheet.now.at p.0 p.1 c.word-w.ensures)
 
-pub overflow_mul-word : goal.overflow_mul-word
-overflow_mul-word c = let q = eight c.requires.0 in search (rules, q)
+pub returns-then-left-word : goal.returns-then-left-word
+returns-then-left-word g c = let p = c.requires in
+    let w = c.word-w.ensures in
+    let t = there_at c.args.sheet.now.at p.0 p.1 w in
+    (λ test k. word_uncut (eight c.args.sheet.now.at) p.0.indexed p.0.sized p.1 w.0 w.1 (k.at _ _ _ t c.keep-left.ensures) c.if-left-word.true, λ e. refl)
 
-pub overflow_add-word : goal.overflow_add-word
-overflow_add-word c = let q = eight c.requires.0 in search (rules, q)
+pub returns-then-left-eq0 : goal.returns-then-left-eq0
+returns-then-left-eq0 g c = let p = c.requires in
+    let w = c.word-w.ensures in
+    let t = there_at c.args.sheet.now.at p.0 p.1 w in (
+      λ test k.
+          rw (c.drop_word.ensures.0, c.drop_word.ensures.1, c.drop_word.ensures.2)
+          (word_zero (eight c.args.sheet.now.at) p.0.indexed p.0.sized p.1 w.0 w.1 (k.at _ _ _ t c.keep-left.ensures) (omega (arith, c.keep-left.type_inv)) c.if-left-eq0.true),
+      λ e. absurd (false≢true (sym e)),
+    )
 
-pub offset_bounds-valid-s : goal.offset_bounds-valid-s
-offset_bounds-valid-s c = let q = eight c.requires.0 in search (rules, q)
-
-pub bounds-valid-s : goal.bounds-valid-s
-bounds-valid-s c = omega (arith, eight c.requires.0, c.word_number-w.ensures.1)
-
-pub kept-keep-requires : goal.kept-keep-requires
-kept-keep-requires c = let p = c.requires in
-    let w = c.word_number-w.ensures in
-    let r = word_at p.0 p.2 p.3 w.0 w.1 in
-    (w.1, p.1, r.0, r.1)
-
-pub keep_word-requires : goal.keep_word-requires
-keep_word-requires c = let p = c.requires in
-    let w = c.word_number-w.ensures in
-    (eight p.0, w.1, p.2.indexed, p.2.sized, p.3, w.0, refl)
-
-pub returns : goal.returns
-returns c = (c.keep_word.ensures.0 _ (word_kept c.requires.0 c.kept-keep.ensures), c.keep_word.ensures.1)
+pub returns-else-left-eq0 : goal.returns-else-left-eq0
+returns-else-left-eq0 g c = let p = c.requires in
+    let w = c.word-w.ensures in
+    let t = there_at c.args.sheet.now.at p.0 p.1 w in (
+      λ test k.
+          word_less (eight c.args.sheet.now.at) p.0.indexed p.0.sized p.1 w.0 w.1 (k.at _ _ _ t c.keep-left.ensures) (omega (arith, c.keep-left.type_inv))
+          (omega (arith, c.if-left-eq0.false)),
+      λ e. absurd (false≢true (sym e)),
+    )

@@ -1,5 +1,6 @@
+use borrow.Author.Rules.{rules}
 use Rattle.words.proofs.Gathers.{covered_sets}
 use Rattle.words.proofs.gather.covered.Goals as goal
 
 pub returns : goal.returns
-returns c = covered_sets _ _ c.requires.0 c.requires.1
+returns c = covered_sets _ _ (search rules) (search rules)

@@ -1,51 +1,24 @@
 use mathlib.Core.Path.{refl}
-use Prim.Native.Nat.{◌<◌}
 use native.Mathlib.Omega.{arith}
 use borrow.Author.Rules.{rules}
-use Rattle.words.proofs.Cuts.{word_at}
-use Rattle.words.proofs.Gathers.{no_sets, supporting_all, supporting_covered, supporting_more, supporting_start}
-use Rattle.words.proofs.Places.{eight}
+use Rattle.words.proofs.Cuts.{there_at}
+use Rattle.words.proofs.Gathers.{supporting_all, supporting_covered, supporting_more, supporting_start}
 use Rattle.words.proofs.gather.gather.Goals as goal
 
-pub nonzero_words-n-requires : goal.nonzero_words-n-requires
-nonzero_words-n-requires c = eight c.requires.0
-
 pub loop-p-init : goal.loop-p-init
-loop-p-init c = (supporting_start _ _ _ _ c.requires.2, rw c.requires.2 no_sets, omega arith)
-
-pub word_number-w-requires : goal.word_number-w-requires
-word_number-w-requires c = let l : c.loop-p.p < 8 = omega (arith, c.requires.1.indexed.few, c.nonzero_words-n.ensures.0, c.loop-p-test.true) in
-    (eight c.requires.0, l, c.requires.1.indexed.each _ l)
-
-pub overflow_mul-s : goal.overflow_mul-s
-overflow_mul-s c = let q = eight c.requires.0 in search (rules, q)
-
-pub overflow_add-s : goal.overflow_add-s
-overflow_add-s c = let q = eight c.requires.0 in search (rules, q)
-
-pub offset_bounds-valid-s : goal.offset_bounds-valid-s
-offset_bounds-valid-s c = let q = eight c.requires.0 in search (rules, q)
-
-pub bounds-valid-s : goal.bounds-valid-s
-bounds-valid-s c = let q = eight c.requires.0 in omega (arith, c.word_number-w.ensures.1)
+loop-p-init c = (supporting_start _ _ _ _ refl, search rules)
 
 pub gathered-requires : goal.gathered-requires
-gathered-requires c = let p = c.requires in
-    let w = c.word_number-w.ensures in
-    let r = word_at p.0 p.1 (omega (arith, c.nonzero_words-n.ensures.0, c.loop-p-test.true)) w.0 w.1 in
-    (w.1, r.0, r.1, c.loop-p.invariant.1)
+gathered-requires c = let t = there_at c.args.sheet.now.at c.requires (omega (arith, c.nonzero_words-p-end.ensures.0)) c.word-w.ensures in (t.few, t.rows, t.near, c.loop-p.invariant.1)
 
 pub returns-then-covered : goal.returns-then-covered
-returns-then-covered c = let p = c.requires in
-    supporting_covered p.0 p.1 (supporting_more p.0 p.1 (omega (arith, c.nonzero_words-n.ensures.0, c.loop-p-test.true)) c.word_number-w.ensures.0 refl c.loop-p.invariant.0 c.gathered.ensures.0) (c.covered.ensures c.if-covered.true)
+returns-then-covered c = let a = c.args.sheet.now.at in
+    let w = c.word-w.ensures in
+    supporting_covered a c.requires (supporting_more a c.requires (omega (arith, c.nonzero_words-p-end.ensures.0)) w.0 w.1 c.loop-p.invariant.0 c.gathered.ensures.0) (c.covered.ensures c.if-covered.true)
 
 pub loop-p-preserved : goal.loop-p-preserved
-loop-p-preserved c = let p = c.requires in (
-  supporting_more p.0 p.1 (omega (arith, c.nonzero_words-n.ensures.0, c.loop-p-test.true)) c.word_number-w.ensures.0 refl c.loop-p.invariant.0 c.gathered.ensures.0,
-  c.gathered.ensures.1,
-  omega (arith, c.loop-p-test.true),
-)
+loop-p-preserved c = let w = c.word-w.ensures in
+    (supporting_more c.args.sheet.now.at c.requires (omega (arith, c.nonzero_words-p-end.ensures.0)) w.0 w.1 c.loop-p.invariant.0 c.gathered.ensures.0, c.gathered.ensures.1)
 
 pub returns : goal.returns
-returns c = let p = c.requires in
-    supporting_all p.0 p.1 (omega (arith, c.nonzero_words-n.ensures.0, c.loop-p-test.false)) c.loop-p.invariant.1 c.loop-p.invariant.0
+returns c = supporting_all c.args.sheet.now.at c.requires (omega (arith, c.nonzero_words-p-end.ensures.0)) c.loop-p.invariant.1 c.loop-p.invariant.0

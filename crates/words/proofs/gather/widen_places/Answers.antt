@@ -4,8 +4,7 @@ use Rattle.words.proofs.Gathers.{widened_end, widened_start}
 use Rattle.words.proofs.gather.widen_places.Goals as goal
 
 pub loop-j-init : goal.loop-j-init
-loop-j-init c = (widened_start c.requires.0 c.requires.1 c.requires.4, omega arith)
+loop-j-init c = widened_start c.args.laid.now.sheet.at c.requires.0 c.requires.1
 
 pub returns : goal.returns
-returns c = let e : c.loop-j.j ≡ 4 = omega (arith, c.loop-j-test.false, c.loop-j.invariant.1) in
-    widened_end c.requires.0 c.requires.1 (rw e at c.loop-j.invariant.0)
+returns c = let e : c.loop-j.j ≡ 4 = omega arith in widened_end c.args.laid.now.sheet.at c.requires.0 (rw e at c.loop-j.invariant)

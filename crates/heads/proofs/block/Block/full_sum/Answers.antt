@@ -8,4 +8,4 @@ unfolding sum
 loop-i-init c = refl
 
 pub loop-i-preserved : goal.loop-i-preserved
-loop-i-preserved c = sum_step c.args.self.now.bytes.now _ _ _ _ c.loop-i.invariant c.word_at-total.ensures refl
+loop-i-preserved c = sum_step c.args.self.now.bytes.now _ _ _ c.loop-i.invariant c.word_at-total.ensures

@@ -1,5 +1,5 @@
 // One order of 8 bytes: what it asks for, or why it is refused.
-ghost use Rattle.std.specs.Prelude.{◌≡◌, ◌∷◌, ◌<◌, IfOk, length};
+ghost use Rattle.std.specs.Prelude.{◌≡◌, ◌∷◌, ◌<◌, IfOk};
 ghost use Rattle.model.specs.Orders.{back_causes, finish_causes, first_cause, kind, mark_causes, mask, narrow_causes, outside, refuse◌if◌, some_wrong, try_limit};
 ghost use Rattle.book.specs.Decoding.{book_of};
 ghost use Rattle.heads.specs.Heads.{columns_of};
@@ -48,16 +48,14 @@ pub enum Order {
 }
 
 // The mask of an order.
-fn mask_of(order: &[u8]) -> u32
-    requires { length order.now ≡ 8 }
+fn mask_of(order: &[u8; 8]) -> u32
     ensures { result ≡ mask order.now }
 {
     fields::word_at(order, 4)
 }
 
 // The limit of a finish, in the bytes of a mask: the tries that it may make.
-fn limit_of(order: &[u8]) -> u32
-    requires { length order.now ≡ 8 }
+fn limit_of(order: &[u8; 8]) -> u32
     ensures { result ≡ try_limit order.now }
 {
     match mask_of(order) {
@@ -76,8 +74,8 @@ fn outside_column(book: &Book<'_>, c: usize, m: u32) -> bool
 
 // ---- an order of each kind: which of its bytes must be zero, and its own causes
 
-fn read_narrow(book: &Book<'_>, order: &[u8]) -> Result<Order, Refused>
-    requires { (length order.now ≡ 8) × (kind order.now ≡ 1) }
+fn read_narrow(book: &Book<'_>, order: &[u8; 8]) -> Result<Order, Refused>
+    requires { kind order.now ≡ 1 }
     ensures refusal { refused_in result ≡ first_cause ((refuse 25 if some_wrong 12 order.now) ∷ narrow_causes (book_of book.now.bytes.now) order.now) }
     ensures order { IfOk result (order_is order.now) }
 {
@@ -95,8 +93,8 @@ fn read_narrow(book: &Book<'_>, order: &[u8]) -> Result<Order, Refused>
     Ok(Order::Narrow { column, mask })
 }
 
-fn read_mark(depth: usize, order: &[u8]) -> Result<Order, Refused>
-    requires { (length order.now ≡ 8) × (kind order.now ≡ 2) }
+fn read_mark(depth: usize, order: &[u8; 8]) -> Result<Order, Refused>
+    requires { kind order.now ≡ 2 }
     ensures refusal { refused_in result ≡ first_cause ((refuse 25 if some_wrong 254 order.now) ∷ mark_causes depth) }
     ensures order { IfOk result (order_is order.now) }
 {
@@ -109,8 +107,8 @@ fn read_mark(depth: usize, order: &[u8]) -> Result<Order, Refused>
     Ok(Order::Mark)
 }
 
-fn read_back(depth: usize, order: &[u8]) -> Result<Order, Refused>
-    requires { (length order.now ≡ 8) × (kind order.now ≡ 3) }
+fn read_back(depth: usize, order: &[u8; 8]) -> Result<Order, Refused>
+    requires { kind order.now ≡ 3 }
     ensures refusal { refused_in result ≡ first_cause ((refuse 25 if some_wrong 252 order.now) ∷ back_causes depth order.now) }
     ensures order { IfOk result (order_is order.now) }
 {
@@ -124,8 +122,8 @@ fn read_back(depth: usize, order: &[u8]) -> Result<Order, Refused>
     Ok(Order::Back { mark })
 }
 
-fn read_finish(order: &[u8]) -> Result<Order, Refused>
-    requires { (length order.now ≡ 8) × (kind order.now ≡ 4) }
+fn read_finish(order: &[u8; 8]) -> Result<Order, Refused>
+    requires { kind order.now ≡ 4 }
     ensures refusal { refused_in result ≡ first_cause ((refuse 25 if some_wrong 14 order.now) ∷ finish_causes order.now) }
     ensures order { IfOk result (order_is order.now) }
 {
@@ -140,8 +138,7 @@ fn read_finish(order: &[u8]) -> Result<Order, Refused>
 }
 
 // What an order asks for, or why it is refused. Of the session its depth is enough.
-pub fn read(book: &Book<'_>, depth: usize, order: &[u8]) -> Result<Order, Refused>
-    requires { length order.now ≡ 8 }
+pub fn read(book: &Book<'_>, depth: usize, order: &[u8; 8]) -> Result<Order, Refused>
     ensures refusal { RefusesAt book.now.bytes.now depth order.now (refused_in result) }
     ensures order { IfOk result (order_is order.now) }
 {

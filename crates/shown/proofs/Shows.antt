@@ -99,9 +99,15 @@ shows_at {d} {r} {t} {f} {st} i space {a} {space'} q e b L x h s dd k =
     same : answer_bytes (answer_in a) ≡ answer_bytes (showing (book_of b) L r x)
     same =
         ap answer_bytes q
-        ∙ rw (h.status, h.done, dd, k.number, k.tries,
-        domain_bytes_same (masks_in st.dom f) (outcome_masks (column_count (book_of b)) (domains (book_of b) L) x) 16
-        (λ c l. masks_same f _ _ s.holds.domain c ∙ k.masks c l)) refl
+        ∙ rw (
+          h.status,
+          h.done,
+          dd,
+          k.number,
+          k.tries,
+          domain_bytes_same (masks_in st.dom f) (outcome_masks (column_count (book_of b)) (domains (book_of b) L) x) 16
+              (λ c l. masks_same f _ _ s.holds.domain c ∙ k.masks c l),
+        ) refl
 
 pub answers_order : (y : Result Order Refused) {b : List ℕ} {st : State} {d : ℕ} {t t' : Summary} {f : Held} {n : Option Refused} (x : List ℕ) (i : ℕ)
     (space : List ℕ) {space' : List ℕ} → n ≡ result_err y

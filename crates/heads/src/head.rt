@@ -6,9 +6,6 @@ ghost use Rattle.heads.specs.Heads.{columns_of, sheets_of, values_of, width_of, 
 use crate::limit::*;
 use fields::{half_at, word_at};
 
-// The letters FGB1, 70, 71, 66 and 49, as one number.
-const LETTERS: u32 = 826427206;
-
 // What the width byte of a forbidden sheet has above its width.
 const MARK: usize = 128;
 
@@ -23,6 +20,7 @@ pub struct Head<'a> {
 
 #[tactic(auto, unfolding(crate::specs::Heads::width_of, crate::specs::Heads::forbids_of))]
 impl<'a> Head<'a> {
+    // Of bytes that have a block 0.
     pub fn of(bytes: &'a [u8]) -> Head<'a>
         requires { 512 ≤ length bytes.now }
         ensures { result.bytes.now ≡ bytes.now }
@@ -92,7 +90,7 @@ impl Head<'_> {
     fn wrong_letters(&self) -> bool
         ensures { result ≡ wrong_letters self.now.bytes.now }
     {
-        word_at(self.bytes, 0) != LETTERS
+        word_at(self.bytes, 0) != u32::from_le_bytes(*b"FGB1")
     }
 
     fn wrong_columns(&self) -> bool

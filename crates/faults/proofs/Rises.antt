@@ -1,8 +1,9 @@
 -- Laws of rows that rise: where the next row stands, a row that does not rise, and what is lower where one does. Assumes nothing.
 use mathlib.Core.Path.{◌∙◌, ◌≡◌, ap, sym}
-use mathlib.Core.Bool.{◌&&◌, false, not, true}
+use mathlib.Core.Bool.{Bool, ◌&&◌, false, not, true}
 use mathlib.Core.Logic.{◌⊎◌, inl, inr}
 use mathlib.Core.List.{List}
+use Rattle.std.proofs.Common.{MatchOption, None, Option, Some, ap₂}
 use Prim.Native.Nat.{◌%◌, ◌*◌, ◌+◌, ◌-◌, ◌/◌, ◌<◌, ◌≤◌, suc, zero, ℕ}
 use native.Mathlib.Omega.{arith}
 use lib.Dec.{eqb, leb}
@@ -18,44 +19,45 @@ pub row_first : (b : List ℕ) (s : ℕ) → row_place b s 0 ≡ 512 * first_blo
 unfolding row_place
 row_first b s = omega arith
 
-pub row_next : (b : List ℕ) (s r i : ℕ) → i ≡ r % 127 → row_place b s (r + 1) ≡ row_place b s r + 4 + 4 * ((i + 1) / 127)
+pub row_next : (b : List ℕ) (s r i : ℕ) → i ≡ r % 127 → row_place b s (r + 1) ≡ row_place b s r + (4 + 4 * ((i + 1) / 127))
 unfolding row_place
 row_next b s r i e = omega arith
 
 pub next_row : (r i : ℕ) → i ≡ r % 127 → i + 1 - 127 * ((i + 1) / 127) ≡ (r + 1) % 127
 next_row r i e = omega arith
 
--- a row of a sheet whose blocks are there is there, and near the book's beginning
-pub row_there : (b : List ℕ) (s r : ℕ) → SheetThere b s → r < rows_of b s → row_place b s r + 3 < length b
+-- a row of a sheet whose blocks are there is there
+pub row_there : (b : List ℕ) (s r at : ℕ) → SheetThere b s → at ≡ row_place b s r → r < rows_of b s → at + 3 < length b
 unfolding row_place blocks_of
-row_there b s r h l = omega (arith, h.blocks)
-
-pub row_near : (b : List ℕ) (s r : ℕ) → first_block b s ≤ 33 → r ≤ 508 → row_place b s r ≤ 512 * 40
-unfolding row_place
-row_near b s r p l = omega arith
+row_there b s r at h e l = omega (arith, h.blocks)
 
 -- ---- a row that does not rise
+-- one more than a row before, where there is one
+abbrev pub above : Option ℕ → ℕ
+above None = 0
+above (Some x) = x + 1
+
+up : (m n : ℕ) → leb m n ≡ leb (m + 1) (n + 1)
+up m n =
+    same_test _ _ (λ e. le-leb (m + 1) (n + 1) (omega (arith, leb-true m n e))) (λ e. le-leb m n (omega (arith, leb-true (m + 1) (n + 1) e)))
+
 pub falls_before : (b : List ℕ) (s r : ℕ) → falls b s r ≡ leb (string_at b (row_place b s r) + 1) (string_before b s r)
 unfolding falls
 falls_before b s r = go (either (eqb r 0))
   where
-    up : (m n : ℕ) → leb m n ≡ leb (m + 1) (n + 1)
-    up m n =
-        same_test _ _ (λ e. le-leb (m + 1) (n + 1) (omega (arith, leb-true m n e))) (λ e. le-leb m n (omega (arith, leb-true (m + 1) (n + 1) e)))
-
     go : (eqb r 0 ≡ true) ⊎ (eqb r 0 ≡ false)
         → (not (eqb r 0) && leb (string_at b (row_place b s r)) (string_at b (row_place b s (r - 1)))) ≡ leb (string_at b (row_place b s r) + 1) (string_before b s r)
     go (inl e) = rw e (sym (lt-leb (string_at b (row_place b s r) + 1) 0 (omega arith)))
     go (inr e) = rw e (up (string_at b (row_place b s r)) (string_at b (row_place b s (r - 1))))
 
--- the same by what the code holds
-pub falls_yes : (b : List ℕ) (s r at x before : ℕ) → at ≡ row_place b s r → before ≡ string_before b s r → x ≡ string_at b at → x + 1 ≤ before → falls b s r ≡ true
-falls_yes b s r at x before h k e l =
-    falls_before b s r ∙ le-leb (string_at b (row_place b s r) + 1) (string_before b s r) (omega (arith, ap (string_at b) h))
-
-pub falls_no : (b : List ℕ) (s r at x before : ℕ) → at ≡ row_place b s r → before ≡ string_before b s r → x ≡ string_at b at → before < x + 1 → falls b s r ≡ false
-falls_no b s r at x before h k e l =
-    falls_before b s r ∙ lt-leb (string_at b (row_place b s r) + 1) (string_before b s r) (omega (arith, ap (string_at b) h))
+-- the same by what the code holds: t tells whether there is a row before and x is not above it
+pub falls_test : (b : List ℕ) (s r at x : ℕ) (before : Option ℕ) (t : Bool) {P : ℕ → Type 0} → at ≡ row_place b s r → above before ≡ string_before b s r → x ≡ string_at b at
+    → MatchOption before (t ≡ false) P → ((p : ℕ) → P p → t ≡ leb x p) → falls b s r ≡ t
+falls_test b s r at x before t h k e m f = falls_before b s r ∙ ap₂ leb (ap (λ (n : ℕ). string_at b n + 1) (sym h) ∙ ap (λ (n : ℕ). n + 1) (sym e)) (sym k) ∙ sym (seen before m f)
+  where
+    seen : (o : Option ℕ) {P : ℕ → Type 0} → MatchOption o (t ≡ false) P → ((p : ℕ) → P p → t ≡ leb x p) → t ≡ leb (x + 1) (above o)
+    seen None m f = m ∙ sym (lt-leb (x + 1) 0 (omega arith))
+    seen (Some p) m f = f p m ∙ up x p
 
 -- a row that rises is above the one before
 pub rises_at : (b : List ℕ) (s r : ℕ) → falls b s (suc r) ≡ false → string_at b (row_place b s r) < string_at b (row_place b s (suc r))

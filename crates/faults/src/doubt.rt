@@ -24,10 +24,5 @@ fn in_doubt(sheet: &SheetBlocks<'_>) -> bool
 pub fn first_doubt(book: &Whole<'_>) -> Option<usize>
     ensures { MatchOption result (NoneIn (wrong_sheet book.now.bytes.now) 0 (sheets_of book.now.bytes.now)) (λ s. (s < sheets_of book.now.bytes.now) × NoneIn (wrong_sheet book.now.bytes.now) 0 s) }
 {
-    for s in 0..book.head().sheets() {
-        if in_doubt(&SheetBlocks::of(book, s)) {
-            return Some(s);
-        }
-    }
-    None
+    (0..book.head().sheets()).find(|s| in_doubt(&SheetBlocks::of(book, *s)))
 }

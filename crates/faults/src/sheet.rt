@@ -21,6 +21,7 @@ pub struct SheetBlocks<'a> {
 
 impl<'a> SheetBlocks<'a> {
     // Sheet s of the book.
+    #[tactic(auto, using(heads::proofs::Heads::sheets_most, rows::proofs::Rows::blocks_there))]
     pub fn of(book: &Whole<'a>, s: usize) -> SheetBlocks<'a>
         requires { s < sheets_of book.now.bytes.now }
         ensures { (result.book.now ≡ book.now.bytes.now) × (result.number ≡ s) }
@@ -36,6 +37,13 @@ impl<'a> SheetBlocks<'a> {
         ensures { result.bytes.now ≡ self.now.book.now }
     {
         Head::of(self.book)
+    }
+
+    // How many rows it has.
+    pub(crate) fn rows(&self) -> usize
+        ensures { result ≡ rows_of self.now.book.now self.now.number }
+    {
+        self.head().rows(self.number)
     }
 
     // Its block q.

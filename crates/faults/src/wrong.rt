@@ -20,18 +20,20 @@ fn any_wrong(b: &Block<'_>, m: Bounds, n: usize) -> bool
     any_set(b.bytes, 4 * n, 508) || any_over(b, m)
 }
 
-// The first block of a sheet that has such a byte, counted from its first.
+// Whether block q of a sheet has a byte that is wrong by these bounds.
+#[tactic(auto, using(rows::proofs::Bounds::block_over))]
+fn over_block(sheet: &SheetBlocks<'_>, m: Bounds, q: usize) -> bool
+    requires { q < blocks_of sheet.now.book.now sheet.now.number }
+    ensures { result ≡ over_block sheet.now.book.now sheet.now.number m.w m.x m.y m.z m.k q }
+{
+    any_wrong(&sheet.block(q), m, used_rows(sheet.rows(), q))
+}
+
+// The first block of a sheet that has one, counted from its first.
 pub(crate) fn first_over(sheet: &SheetBlocks<'_>, m: Bounds) -> Option<usize>
     ensures { FirstOf (over_block sheet.now.book.now sheet.now.number m.w m.x m.y m.z m.k) 0 (blocks_of sheet.now.book.now sheet.now.number) result }
 {
-    let head = sheet.head();
-    let rows = head.rows(sheet.number);
-    for q in 0..blocks_of(&head, sheet.number) {
-        if any_wrong(&sheet.block(q), m, used_rows(rows, q)) {
-            return Some(q);
-        }
-    }
-    None
+    (0..blocks_of(&sheet.head(), sheet.number)).find(|q| over_block(sheet, m, *q))
 }
 
 // The first wrong block of a sheet, counted from its first.
@@ -45,14 +47,16 @@ pub fn first_in_sheet(sheet: &SheetBlocks<'_>) -> Option<usize>
 // ---- the first wrong byte of a block
 
 // Whether byte i of a block is wrong; its first n rows are used.
+#[tactic(auto, using(rows::proofs::Bounds::in_used, rows::proofs::Bounds::past_used))]
 fn wrong_in(b: &Block<'_>, m: Bounds, n: usize, i: usize) -> bool
     requires { (n ≤ 127) × (i < 508) }
     ensures { result ≡ wrong_in m.w m.x m.y m.z m.k b.now.bytes.now (4 * n) i }
 {
     if i < 4 * n {
-        return m.over_bound(i % 4, b.bytes[i]);
+        m.over_bound(i % 4, b.bytes[i])
+    } else {
+        set_at(b.bytes, i)
     }
-    set_at(b.bytes, i)
 }
 
 // The first wrong byte of a block. Used rows are passed over as long as none of their bytes is wrong.
@@ -60,10 +64,5 @@ pub fn seek_wrong(b: &Block<'_>, m: Bounds, n: usize) -> Option<usize>
     requires { n ≤ 127 }
     ensures { FirstOf (wrong_in m.w m.x m.y m.z m.k b.now.bytes.now (4 * n)) 0 508 result }
 {
-    for i in 4 * rows_under(b, m, n)..508 {
-        if wrong_in(b, m, n, i) {
-            return Some(i);
-        }
-    }
-    None
+    (4 * rows_under(b, m, n)..508).find(|i| wrong_in(b, m, n, *i))
 }

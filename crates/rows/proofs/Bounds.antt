@@ -1,16 +1,16 @@
 -- Laws of a look at a block: what is found in its rows beside the bounds of their bytes. Assumes nothing.
-use Rattle.std.proofs.Common.{◌≡◌, ℕ, zero, suc, ◌+◌, ◌-◌, ◌*◌, ◌/◌, ◌%◌, ◌^◌, ◌<◌, ◌≤◌, Bool, true, false, ◌||◌, ltb, leb, ◌⊎◌, List, length, sym, refl, ap, ◌∙◌, inl, inr, le_refl, add-zero, mod-lt, add-one, arith, ltb-false, ltb-true, le-ltb, lt-ltb, eqb-true, le-leb, leb-false}
+use Rattle.std.proofs.Common.{◌≡◌, ℕ, zero, suc, ◌+◌, ◌-◌, ◌*◌, ◌/◌, ◌%◌, ◌^◌, ◌<◌, ◌≤◌, Bool, true, false, ◌||◌, ltb, leb, ◌⊎◌, List, Option, None, Some, unwrap_or, length, sym, refl, ap, ◌∙◌, inl, inr, le_refl, add-zero, mod-lt, arith, ltb-false, ltb-true, le-ltb, lt-ltb, eqb-true, le-leb, leb-false}
 use mathlib.Core.Bool.{false≢true}
 use lib.Bits.{bit_or, or_block}
 use borrow.Author.Tests.{lt-leb, not-false}
 use Rattle.fields.specs.Bytes.{byte_at}
 use Rattle.model.specs.Books.{is_any}
 use Rattle.model.specs.Masks.{bit}
-use Rattle.model.specs.Tests.{Finds, FirstIn, NoneIn, one_if}
-use Rattle.model.proofs.Firsts.{finds_empty, finds_more, finds_same, finds_any, finds_fours, first_in_same, none_empty, none_more}
-use Rattle.model.proofs.Tests.{and_true, below, either, or_false_l, or_false_r}
+use Rattle.model.specs.Tests.{Finds, FirstIn, FirstOf, NoneIn, any_below, one_if}
+use Rattle.model.proofs.Firsts.{any_none, finds_same, finds_any, finds_fours, first_in_same, first_of_same, none_any}
+use Rattle.model.proofs.Tests.{and_true, any_below_e, below, either, or_false_l, or_false_r}
 use Rattle.heads.specs.Blocks.{word, block_at}
-use Rattle.rows.specs.Bounds.{any_high, below_bounds, joined, over_bounds, raised_row, slack_of, turn_of, turned, turned_row, BoundedSheet, Clears, SmallBounds, fourth, place_bound, used_rows, wrong_in}
+use Rattle.rows.specs.Bounds.{any_high, below_bounds, joined, over_bounds, raised_row, slack_of, turn_of, turned, turned_row, BoundedSheet, RowBounds, SheetThere, over_block, SmallBounds, fourth, place_bound, used_rows, wrong_in}
 use Rattle.heads.specs.Limits.{set_at}
 use Rattle.heads.specs.Heads.{rows_of}
 use Rattle.rows.specs.Rows.{any_places, blocks_of, bound_of, first_block, is_value, is_wrong, row_place, wrong_block, wrong_byte, over_at}
@@ -24,6 +24,11 @@ pub turned_high : (block : List ℕ) (o slack i v y : ℕ) → v ≡ word block 
     → any_high y ≡ turned_row o slack block i
 unfolding turned_row
 turned_high block o slack i v y hv hy = rw (hy, high_or (turned o v) ((turned o v + slack) % 2 ^ 32), hv)
+
+-- what lies before the first that is found, or before the end
+before_first : {f : ℕ → Bool} (n : ℕ) (o : Option ℕ) → FirstOf f 0 n o → (unwrap_or o n ≤ n) × NoneIn f 0 (unwrap_or o n)
+before_first n None h = (le_refl n, h)
+before_first n (Some r) h = (h.1.to, h.1.none)
 
 module _ (block : List ℕ) (bytes : (i : ℕ) → byte_at block i < 256) where
   -- the bytes at each place of the rows
@@ -132,8 +137,9 @@ module _ (block : List ℕ) (bytes : (i : ℕ) → byte_at block i < 256) where
     pub turned_found : {t : Bool} → Finds (turned_row (turn_of k) (slack_of w x y z - turn_of k) block) 0 n t → Finds (over_bounds w x y z k block) 0 n t
     turned_found h = finds_same (λ r l p. turned_row_lem r) h
 
-    pub turned_none : NoneIn (turned_row (turn_of k) (slack_of w x y z - turn_of k) block) 0 n → NoneIn (over_bounds w x y z k block) 0 n
-    turned_none h = record { at = λ r l p. sym (turned_row_lem r) ∙ h.at r l p }
+    pub turned_before : (o : Option ℕ) → FirstOf (turned_row (turn_of k) (slack_of w x y z - turn_of k) block) 0 n o
+        → (unwrap_or o n ≤ n) × NoneIn (over_bounds w x y z k block) 0 (unwrap_or o n)
+    turned_before o h = before_first n o (first_of_same o (λ r l p. turned_row_lem r) h)
 
 -- ---- a 255 shows in the joined rows of its block
 -- the highest bit of byte j of row r
@@ -166,6 +172,9 @@ any_joined b s q i j there p l bytes e =
         block_byte b (first_block b s + q) there (4 * i + m) (omega arith) ∙ ap (byte_at b) n
 
 -- ---- a block
+any_finds : (n : ℕ) (f : ℕ → Bool) → Finds f 0 n (any_below n f)
+any_finds n f = record { none = any_none; some = λ e. let r = any_below_e n f e in (r.0, omega arith, r.1, r.2) }
+
 -- a byte of the used rows, and one past them
 pub in_used : (w x y z k n j i : ℕ) (block : List ℕ) → i < n → i % 4 ≡ j → wrong_in w x y z k block n i ≡ over_at (ltb j k) (fourth w x y z j) (byte_at block i)
 unfolding wrong_in
@@ -282,30 +291,34 @@ module _ (b : List ℕ) (s q : ℕ) (there : 512 * (first_block b s + q) + 512 �
       go (inl e) = rw (used i p, e, fourth_bound b s (i % 4) (mod-lt i (omega arith)), byte, wrong_used b s (127 * q + i / 4) (i % 4) (byte_at b (512 * (first_block b s + q) + i)) (ltb-true _ _ e))
       go (inr e) = rw (used i p, e, byte, wrong_unused b s (127 * q + i / 4) (i % 4) (byte_at b (512 * (first_block b s + q) + i)) (ltb-false _ _ e)) (set_leb (byte_at b (512 * (first_block b s + q) + i)))
 
-  -- so a look at the block tells whether it is wrong
-  block_wrong : (r : Bool) → Finds seen_wrong 0 508 r → r ≡ wrong_block b s q
+  -- so it is wrong exactly when the code sees a wrong byte
+  block_same : any_below 508 seen_wrong ≡ wrong_block b s q
   unfolding wrong_block
-  block_wrong r h = sym (finds_any r (finds_same (λ i l p. same_byte i p) h))
+  block_same = sym (finds_any (any_below 508 seen_wrong) (finds_same (λ i l p. same_byte i p) (any_finds 508 seen_wrong)))
 
--- the same of what the code holds: the sheet with its bounds, the block's bytes, the sheet's rows and the used ones of block q
-pub block_seen : (b block : List ℕ) (s q start w x y z k n used : ℕ) (r : Bool)
-    → BoundedSheet b s start w x y z k → q < blocks_of b s → block ≡ block_at b (start + q) → n ≡ rows_of b s → used ≡ used_rows n q
-    → Finds (wrong_in w x y z k block (4 * used)) 0 508 r → r ≡ wrong_block b s q
+-- a block of a sheet has a used row, n the sheet's rows
+pub row_of_block : (b : List ℕ) (s q n : ℕ) → n ≡ rows_of b s → q < blocks_of b s → 127 * q < n
 unfolding blocks_of
-block_seen b block s q start w x y z k n used r m p hb hn hu h =
-    let u = m.bounds in
-    block_wrong b s q (omega arith) (omega arith) r (rw (u.first, u.second, u.third, u.last, u.values, hb, hu, hn, m.starts) at h)
+row_of_block b s q n e p = omega arith
 
--- of a first look, where no place has a value
-pub block_clear : (b block : List ℕ) (s q start w x y z k n used : ℕ) (r : Bool)
-    → BoundedSheet b s start w x y z k → q < blocks_of b s → block ≡ block_at b (start + q) → n ≡ rows_of b s → used ≡ used_rows n q
-    → Finds (wrong_in w x y z 0 block (4 * used)) 0 508 r → Clears (wrong_block b s) q (q + 1) r
-block_clear b block s q start w x y z k n used r m p hb hn hu h = record { none = λ e. none_more (none_empty (le_refl q)) (right e) }
-  where
-    right : r ≡ false → wrong_block b s q ≡ false
-    right e =
-        sym (block_seen b block s q start w x y z k n used false m p hb hn hu
-        (record { none = λ t. record { at = λ i l o. doubt_wrong w x y z k (4 * used) i block ((h.none e).at i l o) }; some = λ t. absurd (false≢true t) }))
+-- a look at block q by any bounds, from what the code holds: where its sheet begins, the block's bytes, the sheet's rows and the used ones of the block
+pub block_over : (b block : List ℕ) (s q start w x y z k n used : ℕ) (r : Bool)
+    → start ≡ first_block b s → block ≡ block_at b (start + q) → n ≡ rows_of b s → used ≡ used_rows n q
+    → Finds (wrong_in w x y z k block (4 * used)) 0 508 r → over_block b s w x y z k q ≡ r
+unfolding over_block
+block_over b block s q start w x y z k n used r hs hb hn hu h = finds_any r (rw (hb, hu, hn, hs) at h)
+
+-- by the sheet's own bounds
+pub over_wrong : (b : List ℕ) (s w x y z k q : ℕ) → SheetThere b s → RowBounds b s w x y z k → q < blocks_of b s
+    → over_block b s w x y z k q ≡ wrong_block b s q
+unfolding over_block blocks_of
+over_wrong b s w x y z k q h u p =
+    rw (u.first, u.second, u.third, u.last, u.values) (block_same b s q (omega (arith, h.blocks)) (omega arith))
+
+-- a block that is not over where 255 passes nowhere is not over where it passes
+pub over_none : (b : List ℕ) (s w x y z k q : ℕ) → over_block b s w x y z 0 q ≡ false → over_block b s w x y z k q ≡ false
+unfolding over_block
+over_none b s w x y z k q e = none_any (record { at = λ i l p. doubt_wrong w x y z k (4 * used_rows (rows_of b s) q) i (block_at b (first_block b s + q)) ((any_none e).at i l p) })
 
 -- and where its first wrong byte is
 pub block_first : (b block : List ℕ) (s q start w x y z k n used i : ℕ)

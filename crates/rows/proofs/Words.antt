@@ -6,7 +6,7 @@ use Rattle.model.specs.Masks.{bit}
 use Rattle.model.specs.Tests.{Finds, one_if}
 use Rattle.model.proofs.Firsts.{finds_empty, finds_more, finds_same}
 use Rattle.model.proofs.Masks.{bit-or}
-use Rattle.model.proofs.Tests.{and_false, and_l, and_r, and_true, below, either, or_false_l, or_false_r, or_l, or_mono, or_r, or_swap}
+use Rattle.model.proofs.Tests.{and_assoc, and_false, and_l, and_r, and_true, below, either, or_false_l, or_false_r, or_l, or_mono, or_r, or_swap}
 use Rattle.rows.specs.Rows.{over_at}
 use Rattle.rows.specs.Bounds.{any_high, below_bounds, joined, Joins, slack_of, turn_of, turned, SmallTurn}
 
@@ -238,6 +238,15 @@ below_each w x y z a b c d ha hb hc e =
       omega (arith, ltb-true (v / 65536 % 256) y (and_l _ _ e2)),
       omega (arith, ltb-true (v / 16777216) z (and_r (ltb (v / 65536 % 256) y) _ e2)),
     )
+
+-- the same of the four bytes one by one
+pub below_all : (w x y z v : ℕ) → v < 2 ^ 32
+    → (((ltb (v % 256) w && ltb (v / 256 % 256) x) && ltb (v / 65536 % 256) y) && ltb (v / 16777216 % 256) z) ≡ below_bounds w x y z v
+unfolding below_bounds
+below_all w x y z v l =
+    let e : v / 16777216 % 256 ≡ v / 16777216 = omega arith in
+    rw e (sym (and_assoc (ltb (v % 256) w) (ltb (v / 256 % 256) x) (ltb (v / 65536 % 256) y && ltb (v / 16777216) z)
+    ∙ and_assoc (ltb (v % 256) w && ltb (v / 256 % 256) x) (ltb (v / 65536 % 256) y) (ltb (v / 16777216) z)))
 
 -- a byte that is no value, or not 255, is over its bound where it is not below it
 pub plain_over : (j k m x : ℕ) → (k ≤ j) ⊎ (x ≡ 255 → ⊥) → over_at (ltb j k) m x ≡ leb m x

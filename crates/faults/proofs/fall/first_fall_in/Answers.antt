@@ -1,44 +1,31 @@
-use mathlib.Core.Path.{◌∙◌, ◌≡◌, ap, refl, sym}
-use Prim.Native.Nat.{◌*◌, ◌<◌, ◌≤◌, ℕ}
-use native.Mathlib.Omega.{arith}
-use borrow.Author.Rules.{rules}
-use Rattle.model.proofs.Firsts.{first_in_end, first_in_found, none_empty, none_more}
-use Rattle.heads.specs.Heads.{rows_of}
-use Rattle.faults.proofs.Rises.{before_next, falls_no, falls_yes, next_row, row_first, row_near, row_next, row_there}
+use Rattle.std.proofs.Common.{◌+◌, ◌*◌, ◌<◌, ℕ, length, ap, refl, sym, ◌∙◌, arith, rules, tests}
+use Rattle.model.proofs.Firsts.{first_of_found, none_empty, none_more}
+use Rattle.rows.specs.Rows.{falls}
+use Rattle.faults.proofs.Rises.{before_next, falls_test, next_row, row_first, row_next, row_there}
 use Rattle.faults.proofs.fall.first_fall_in.Goals as goal
 
 pub loop-r-init : goal.loop-r-init
-loop-r-init c = (search rules, ap (λ (n : ℕ). 512 * n) c.requires.2 ∙ sym (row_first _ _), omega arith, refl, none_empty (omega arith))
+loop-r-init c = (ap (λ (n : ℕ). 512 * n) c.args.sheet.now.starts ∙ sym (row_first _ _), refl, refl, none_empty (omega arith))
 
-pub string_at-requires : goal.string_at-requires
-string_at-requires c = let l : c.loop-r.r < rows_of c.args.book.now c.args.s = omega (arith, c.loop-r-test.true, c.rows-n.ensures.0) in
-    rw c.loop-r.invariant.1 (row_there _ _ _ c.requires.0 l)
+pub string_at-x-requires : goal.string_at-x-requires
+string_at-x-requires c = row_there _ _ _ _ c.args.sheet.now.there c.loop-r.invariant.0 (search rules)
 
-pub returns-then-x-before : goal.returns-then-x-before
-returns-then-x-before c = let l : c.loop-r.r < rows_of c.args.book.now c.args.s = omega (arith, c.loop-r-test.true, c.rows-n.ensures.0) in
-    first_in_found (omega arith) l c.loop-r.invariant.4
-    (falls_yes _ _ _ _ _ _ c.loop-r.invariant.1 c.loop-r.invariant.3 c.string_at.ensures c.if-x-before.true)
+pub returns-then-is_some_and : goal.returns-then-is_some_and
+returns-then-is_some_and c = let sheet = c.args.sheet.now in
+    first_of_found {f = falls sheet.book.now sheet.number} (omega arith) (search rules) c.loop-r.invariant.3
+    (falls_test sheet.book.now sheet.number c.loop-r.r _ _ _ _ c.loop-r.invariant.0 c.loop-r.invariant.2 c.string_at-x.ensures c.is_some_and.ensures (λ p e. search (rules, tests)) ∙ c.if-is_some_and.true)
 
--- a row's place is small
-pub overflow_add-at : goal.overflow_add-at
-overflow_add-at c =
-    let near : c.loop-r.at ≤ 512 * 40 = rw c.loop-r.invariant.1 (row_near _ _ _ (omega (arith, c.requires.2, c.requires.3)) (omega (arith, c.rows-n.ensures.0, c.requires.1))) in
-    omega (arith, near)
-
+-- a row lies inside the book
 pub overflow_add-at-in-loop-r : goal.overflow_add-at-in-loop-r
 overflow_add-at-in-loop-r c =
-    let near : c.loop-r.at ≤ 512 * 40 = rw c.loop-r.invariant.1 (row_near _ _ _ (omega (arith, c.requires.2, c.requires.3)) (omega (arith, c.rows-n.ensures.0, c.requires.1))) in
-    omega (arith, near, c.ends-more.ensures, c.loop-r.invariant.2)
+    let there : c.loop-r.at + 3 < length c.args.sheet.now.book.now = row_there _ _ _ _ c.args.sheet.now.there c.loop-r.invariant.0 (search rules) in
+    omega (arith, there)
 
 pub loop-r-preserved : goal.loop-r-preserved
-loop-r-preserved c = (
-  search rules,
-  rw (c.loop-r.invariant.1, c.ends-more.ensures) (sym (row_next _ _ _ _ c.loop-r.invariant.2)),
-  rw c.ends-more.ensures (next_row _ _ c.loop-r.invariant.2),
-  rw (c.string_at.ensures, c.loop-r.invariant.1) (before_next c.args.book.now c.args.s c.loop-r.r),
-  none_more c.loop-r.invariant.4 (falls_no _ _ _ _ _ _ c.loop-r.invariant.1 c.loop-r.invariant.3 c.string_at.ensures c.if-x-before.false),
+loop-r-preserved c = let sheet = c.args.sheet.now in (
+  rw (c.loop-r.invariant.0, c.ends-more.ensures) (sym (row_next _ _ _ _ c.loop-r.invariant.1)),
+  rw c.ends-more.ensures (next_row _ _ c.loop-r.invariant.1),
+  rw (c.string_at-x.ensures, c.loop-r.invariant.0) (before_next sheet.book.now sheet.number c.loop-r.r),
+  none_more c.loop-r.invariant.3
+      (falls_test sheet.book.now sheet.number c.loop-r.r _ _ _ _ c.loop-r.invariant.0 c.loop-r.invariant.2 c.string_at-x.ensures c.is_some_and.ensures (λ p e. search (rules, tests)) ∙ c.if-is_some_and.false),
 )
-
-pub returns : goal.returns
-returns c = let e : c.loop-r.r ≡ rows_of c.args.book.now c.args.s = omega (arith, c.loop-r-test.false, c.loop-r.invariant.0, c.rows-n.ensures.0) in
-    first_in_end (omega arith) (omega arith) (omega arith) c.loop-r.invariant.4

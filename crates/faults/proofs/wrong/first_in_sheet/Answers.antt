@@ -1,10 +1,8 @@
-use native.Mathlib.Nat.{le_refl}
-use native.Mathlib.Omega.{arith}
-use borrow.Author.Rules.{rules}
-use Rattle.model.proofs.Firsts.{first_in_end, none_empty}
-use Rattle.rows.specs.Rows.{blocks_of}
+use Rattle.model.proofs.Firsts.{first_of_same}
+use Rattle.rows.proofs.Bounds.{over_wrong}
 use Rattle.faults.proofs.wrong.first_in_sheet.Goals as goal
 
-pub returns-then-rows-eq0 : goal.returns-then-rows-eq0
-unfolding blocks_of
-returns-then-rows-eq0 c = first_in_end (search rules) (search rules) (omega arith) (none_empty (le_refl _))
+pub returns : goal.returns
+returns c = let m = c.bounds_of.result in
+    let sheet = c.args.sheet.now in
+    first_of_same c.first_over.result (λ q p l. over_wrong sheet.book.now sheet.number m.w m.x m.y m.z m.k q sheet.there (rw c.head.ensures at c.bounds_of.ensures) l) c.first_over.ensures

@@ -1,19 +1,12 @@
-use mathlib.Core.Path.{sym, ◌∙◌}
-use borrow.Author.Rules.{rules}
-use Rattle.model.proofs.Firsts.{first_in_end, first_in_found, none_more}
+use Rattle.std.proofs.Common.{◌*◌, rules, tests}
+use Rattle.model.proofs.Firsts.{first_of_join, first_of_range}
+use Rattle.rows.specs.Bounds.{wrong_in}
 use Rattle.rows.proofs.Bounds.{rows_right}
 use Rattle.faults.proofs.wrong.seek_wrong.Goals as goal
 
-pub loop-i-init : goal.loop-i-init
-loop-i-init c = let m = c.args.m in
-    let r = c.rows_under-i.ensures in
-    (search rules, rows_right m.w m.x m.y m.z m.k _ _ _ r.0 r.1)
-
-pub returns-then-wrong_in : goal.returns-then-wrong_in
-returns-then-wrong_in c = first_in_found (search rules) (search rules) c.loop-i.invariant.1 (sym c.wrong_in.ensures ∙ c.if-wrong_in.true)
-
-pub loop-i-preserved : goal.loop-i-preserved
-loop-i-preserved c = (search rules, none_more c.loop-i.invariant.1 (sym c.wrong_in.ensures ∙ c.if-wrong_in.false))
-
 pub returns : goal.returns
-returns c = first_in_end (search rules) (search rules) (search rules) c.loop-i.invariant.1
+returns c = let m = c.args.m in
+    let b = c.args.b.now.bytes.now in
+    let u = c.rows_under.ensures in
+    first_of_join 508 c.find.result (search rules) (rows_right m.w m.x m.y m.z m.k c.args.n c.rows_under.result b u.0 u.1)
+    (first_of_range (wrong_in m.w m.x m.y m.z m.k b (4 * c.args.n)) _ _ _ c.find.result c.find.ensures.ran (λ x t q k. search (rules, tests)))

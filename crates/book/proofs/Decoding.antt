@@ -26,9 +26,9 @@ use Rattle.book.specs.Places.{wrong_cell}
 use Rattle.rows.proofs.Bounds.{any_joined, wrong_used}
 use Rattle.faults.proofs.Rises.{rises_at, string_lower}
 use Rattle.rows.proofs.Rows.{clean_none, first_block_later, right_length}
-use Rattle.book.proofs.Numbers.{fall_none}
+use Rattle.book.proofs.Refusals.{fall_none}
 use Rattle.book.proofs.Places.{row_byte}
-use Rattle.book.proofs.Verdicts.{later_blocks, later_checks, later_head, later_length, later_rows, result_accepted}
+use Rattle.book.proofs.Verdicts.{later_blocks, later_checks, later_head, later_length, later_rows, numbered, verdict_order}
 use Rattle.heads.proofs.Heads.{column_inside, column_rises, columns_range, rows_most, sheets_most, values_range, width_range}
 
 -- ---- nothing is wrong
@@ -230,6 +230,10 @@ right_formed b h = record {
       let r = tab_mem (sheets_of b) (sheet_of b) s m in rw r.2 (sheet_formed b h r.0 r.1);
 }
 
+-- its number by its head
+pub accepted_figure : (b : List ℕ) → Accepted b → check_result b ≡ columns_of b * 16 + sheets_of b
+accepted_figure b a = let h = accepted_right b a in numbered b (verdict_order b h.length_right h.checks h.head h.blocks h.rows (fall_none b h.order))
+
 -- the statement of specs/Decoding.antt
 pub accepted_well_formed : AcceptedWellFormed
 unfolding book_of
@@ -238,6 +242,6 @@ accepted_well_formed b a =
     record {
       well_formed = right_formed b h;
       figure =
-          result_accepted b h.length_right h.checks h.head h.blocks h.rows (fall_none b h.order)
+          accepted_figure b a
           ∙ sym (ap₂ (λ (c s : ℕ). c * 16 + s) (length-tab (columns_of b) (values_of b)) (length-tab (sheets_of b) (sheet_of b)));
     }

@@ -15,10 +15,9 @@ use Rattle.fields.specs.Bytes.{byte_at}
 use Rattle.heads.specs.Heads.{columns_of, forbids_of, rows_of, sheets_of, width_of}
 use Rattle.rows.specs.Rows.{any_places, blocks_needed, blocks_of, bound_of, fall_place, falls, falls_in, fault_at, first_block, first_fall, is_value, is_wrong, row_place, wrong_block, wrong_byte, wrong_sheet}
 use Rattle.book.specs.Verdicts.{check_result, number_of, order_verdict, refused, row_verdict}
-use Rattle.book.specs.Numbers.{fault_number}
 use Rattle.book.specs.Places.{FirstFall, FirstFault, LargeValue, PlacesTell, WrongFiller, place_byte, place_column, place_row, place_sheet, wrong_cell}
 use Rattle.rows.proofs.Rows.{Faulty, FirstAt, blocks_most, fault_none, fault_or_none, first_block_later}
-use Rattle.book.proofs.Numbers.{number_filler, number_value, place_of}
+use Rattle.book.proofs.Refusals.{filler_at, place_of, value_at}
 use Rattle.book.proofs.Verdicts.{later_head, later_rows}
 use Rattle.heads.proofs.Heads.{columns_range, sheets_most}
 
@@ -276,10 +275,10 @@ module _ (b : List ℕ) (from : 5 ≤ check_result b / 65536) where
   unfolding fault_at
   told = go (fault_or_none b)
     where
-      at : (s q i : ℕ) → FirstAt b s q i → check_result b ≡ fault_number (fault_at b s q i)
+      at : (s q i : ℕ) → FirstAt b s q i → check_result b ≡ number_of (row_verdict b (fault_at b s q i))
           → (is_value b s (127 * q + i / 4) (i % 4) ≡ true) ⊎ (is_value b s (127 * q + i / 4) (i % 4) ≡ false) → Told
-      at s q i f e (inl h) = let k = split s q i f 5 (e ∙ number_value b s q i h) in inl (k.0, rw k.1 (large_value b s q i f h))
-      at s q i f e (inr h) = let k = split s q i f 6 (e ∙ number_filler b s q i h) in inr (inl (k.0, rw k.1 (wrong_filler b s q i f h)))
+      at s q i f e (inl h) = let k = split s q i f 5 (e ∙ ap number_of (value_at b s q i h)) in inl (k.0, rw k.1 (large_value b s q i f h))
+      at s q i f e (inr h) = let k = split s q i f 6 (e ∙ ap number_of (filler_at b s q i h)) in inr (inl (k.0, rw k.1 (wrong_filler b s q i f h)))
 
       go : NoneIn (wrong_sheet b) 0 (sheets_of b) ⊎ Faulty b → Told
       go (inl h) = order_or_none h

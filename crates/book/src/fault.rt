@@ -1,5 +1,5 @@
 // The first fault of the rows, and its refusal: the first wrong block is looked at once more, row by row, and its wrong row byte by byte.
-ghost use Rattle.std.specs.Prelude.{◌≡◌, ◌+◌, ◌*◌, ◌<◌, ◌≤◌, IfErr, IfOk, false, true};
+ghost use Rattle.std.specs.Prelude.{◌≡◌, ◌+◌, ◌*◌, ◌<◌, ◌≤◌, IfErr, OnOk, false, true};
 ghost use Rattle.model.specs.Tests.{FirstOf};
 ghost use Rattle.heads.specs.Heads.{RightHead, sheets_of};
 ghost use Rattle.rows.specs.Rows.{blocks_of, clean, fault_at, fault_in_block, first_fault, is_value, fault_in_sheet, wrong_byte, wrong_sheet};
@@ -24,7 +24,7 @@ fn is_value(head: &Head<'_>, s: usize, r: usize, j: usize) -> bool
 
 // The refusal for byte i of block q of a sheet, which is wrong.
 fn fault_at(sheet: &SheetBlocks<'_>, q: usize, i: usize) -> Refusal
-    requires { (sheet.now.number < 8) × (sheet.now.start + q ≤ 33) × (i ≤ 508) }
+    requires { (sheet.now.start + q ≤ 33) × (i ≤ 508) }
     ensures { row_verdict sheet.now.book.now (fault_at sheet.now.book.now sheet.now.number q i) ≡ verdict_of result }
 {
     let place = (128 * (sheet.start + q) + i / 4) as u16;
@@ -50,7 +50,7 @@ fn first_in_block(sheet: &SheetBlocks<'_>, q: usize) -> Option<usize>
 // The refusal for the first fault of sheet s.
 fn check_sheet(book: &Whole<'_>, s: usize) -> Result<(), Refusal>
     requires { s < sheets_of book.now.bytes.now }
-    ensures right { IfOk result (λ _. wrong_sheet book.now.bytes.now s ≡ false) }
+    ensures right { OnOk result (wrong_sheet book.now.bytes.now s ≡ false) }
     ensures wrong { IfErr result (λ e. (wrong_sheet book.now.bytes.now s ≡ true) × (row_verdict book.now.bytes.now (fault_in_sheet book.now.bytes.now s) ≡ verdict_of e)) }
 {
     let sheet = SheetBlocks::of(book, s);
@@ -65,7 +65,7 @@ fn check_sheet(book: &Whole<'_>, s: usize) -> Result<(), Refusal>
 
 // Refusal 5 or 6 for the first fault of the rows. A right book without 255 is done where no sheet is in doubt.
 pub fn check_faults(book: &Whole<'_>) -> Result<(), Refusal>
-    ensures right { IfOk result (λ _. first_fault book.now.bytes.now ≡ clean) }
+    ensures right { OnOk result (first_fault book.now.bytes.now ≡ clean) }
     ensures wrong { IfErr result (λ e. row_verdict book.now.bytes.now (first_fault book.now.bytes.now) ≡ verdict_of e) }
 {
     let Some(first) = first_doubt(book) else {

@@ -1,6 +1,7 @@
 // Why a book is refused, and where: the papers' refusals 1 to 7, each with its place.
-ghost use Rattle.std.specs.Prelude.{◌≡◌};
-ghost use Rattle.book.specs.Refusals.{cause_of, place_of, refusal_number};
+ghost use Rattle.std.specs.Prelude.{◌≡◌, ◌<◌};
+ghost use Rattle.book.specs.Refusals.{refusal_number};
+ghost use Rattle.book.specs.Verdicts.{refused};
 
 use std::error::Error;
 use std::fmt;
@@ -18,42 +19,28 @@ pub enum Refusal {
 }
 
 impl Refusal {
-    // Its number among the refusals, 1 to 7.
-    pub fn cause(self) -> u64
-        ensures { result ≡ cause_of self }
-    {
-        match self {
-            Refusal::Length => 1,
-            Refusal::Check(_) => 2,
-            Refusal::Field(_) => 3,
-            Refusal::Blocks(_) => 4,
-            Refusal::Value(_) => 5,
-            Refusal::Filler(_) => 6,
-            Refusal::Order(_) => 7,
-        }
-    }
-
-    // Its place: 0 where it has none.
-    pub fn place(self) -> u64
-        ensures { result ≡ place_of self }
-    {
-        match self {
-            Refusal::Length => 0,
-            Refusal::Check(place)
-            | Refusal::Field(place)
-            | Refusal::Blocks(place)
-            | Refusal::Value(place)
-            | Refusal::Filler(place)
-            | Refusal::Order(place) => u64::from(place),
-        }
-    }
-
-    // Refusal and place as the one number that the calls return.
+    // Refusal and place as the one number that a call returns.
     pub fn number(self) -> u64
         ensures { result ≡ refusal_number self }
     {
-        self.cause() * 65536 + self.place()
+        match self {
+            Refusal::Length => refused(1, 0),
+            Refusal::Check(block) => refused(2, block),
+            Refusal::Field(offset) => refused(3, offset),
+            Refusal::Blocks(needed) => refused(4, needed),
+            Refusal::Value(place) => refused(5, place),
+            Refusal::Filler(place) => refused(6, place),
+            Refusal::Order(place) => refused(7, place),
+        }
     }
+}
+
+// Refusal n and its place as one number.
+fn refused(n: u64, place: u16) -> u64
+    requires { n < 65536 }
+    ensures { result ≡ refused n place }
+{
+    n * 65536 + u64::from(place)
 }
 
 impl fmt::Display for Refusal {

@@ -1,5 +1,5 @@
 // The first row of a forbidden sheet that is not above the one before it, and its refusal.
-ghost use Rattle.std.specs.Prelude.{◌≡◌, ◌+◌, ◌*◌, ◌/◌, ◌<◌, ◌≤◌, IfErr, IfOk, false, true};
+ghost use Rattle.std.specs.Prelude.{◌≡◌, ◌+◌, ◌*◌, ◌/◌, ◌<◌, ◌≤◌, IfErr, OnOk, false, true};
 ghost use Rattle.heads.specs.Heads.{columns_of, sheets_of};
 ghost use Rattle.rows.specs.Rows.{fall_place, falls_in};
 ghost use Rattle.book.specs.Refusals.{verdict_of};
@@ -22,7 +22,7 @@ fn fall_at(start: usize, r: usize) -> Refusal
 // The refusal for the first row of sheet s that does not rise: a sheet that allows its rows has none.
 fn check_sheet(book: &Whole<'_>, s: usize) -> Result<(), Refusal>
     requires { s < sheets_of book.now.bytes.now }
-    ensures right { IfOk result (λ _. falls_in book.now.bytes.now s ≡ false) }
+    ensures right { OnOk result (falls_in book.now.bytes.now s ≡ false) }
     ensures wrong { IfErr result (λ e. (falls_in book.now.bytes.now s ≡ true) × (bad_order (fall_place book.now.bytes.now s / 4) ≡ verdict_of e)) }
 {
     if !book.head().forbids(s) {
@@ -37,7 +37,7 @@ fn check_sheet(book: &Whole<'_>, s: usize) -> Result<(), Refusal>
 
 // Refusal 7 for the first row that does not rise.
 pub fn check_falls(book: &Whole<'_>) -> Result<(), Refusal>
-    ensures right { IfOk result (λ _. order_verdict book.now.bytes.now ≡ accepted (columns_of book.now.bytes.now) (sheets_of book.now.bytes.now)) }
+    ensures right { OnOk result (order_verdict book.now.bytes.now ≡ accepted (columns_of book.now.bytes.now) (sheets_of book.now.bytes.now)) }
     ensures wrong { IfErr result (λ e. order_verdict book.now.bytes.now ≡ verdict_of e) }
 {
     for s in 0..book.head().sheets() {

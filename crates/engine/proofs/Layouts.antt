@@ -22,7 +22,7 @@ use Rattle.book.proofs.Decoding.{accepted_right, any_shows}
 use Rattle.counters.specs.Counters.{cell_place}
 use Rattle.cells.proofs.Walks.{four_all, shifted_one}
 use Rattle.words.specs.Sheets.{ShortPlaces, first_byte, value_at}
-use Rattle.engine.specs.Layouts.{ColumnsIn, LayoutOf}
+use Rattle.engine.specs.Layouts.{ColumnsIn, LayoutOf, SheetsLaid}
 
 -- ---- the columns of a sheet
 
@@ -57,7 +57,7 @@ columns_more {b} {s} {n} {m} {c} h e l =
 
 pub columns_end : {b : List ℕ} {s n m : ℕ} → n ≡ width_of b s → ColumnsTo b s n m → ColumnsIn b s m
 columns_end e h =
-    record { all = λ j l. h.all j (omega arith); only = λ c f. let r = h.only c f in (r.0, omega (arith, r.1), r.2) }
+    record { all = λ j l. h.all j (omega arith); only = λ c f. let r = h.only c f in ∣ (r.0, omega (arith, r.1), r.2) ∣₁ }
 
 -- ---- the places with 255, block by block
 -- those of the rows in the blocks below n
@@ -147,3 +147,6 @@ laid_end acc e h =
       any = λ s l. h.any s (omega arith);
       past = λ s l. h.past s (omega arith);
     }
+
+pub laid_sheets : {b begins scopes shorts : List ℕ} → LayoutOf b begins scopes shorts → SheetsLaid b begins shorts
+laid_sheets h = record { accepted = h.accepted; starts = h.starts; any = h.any }

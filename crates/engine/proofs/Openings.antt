@@ -31,6 +31,8 @@ use Rattle.counters.proofs.Ones.{ones_bit, ones_shifted}
 use Rattle.words.proofs.Places.{cell_value, valid_e, valid_i}
 use Rattle.engine.specs.Openings.{FullDomains, FullIndex, FullRows, FullWord, FullWords, SixtyFour, places_below}
 use Rattle.engine.specs.Propagation.{Ready, Propagated, store_in}
+use Rattle.engine.specs.States.{StateIs, state_of}
+use Rattle.engine.specs.declared.state.State.{State}
 use Rattle.engine.proofs.Propagation.{at_sheet, columns_count, count_at}
 use Rattle.engine.proofs.Worklists.{eight_sheets}
 
@@ -253,7 +255,7 @@ module _ (b : List ℕ) (acc : Accepted b) {D W X N : List ℕ} (hd : FullDomain
       go (inl l) = l
       go (inr l) = absurd (false≢true (sym (bit_of_zero v) ∙ (rw (hd.empty c l) at e)))
 
-  pub full_ready : {waiting : ℕ} → waiting ≡ places_below (sheets_of b) → Ready b true waiting 0 D W X N
+  pub full_ready : {waiting : ℕ} → waiting ≡ places_below (sheets_of b) → Ready b true waiting 0 (state_of D W X N)
   full_ready {waiting} e = record {
     store = record { columns = hd.size; bits = domain_bits };
     sized = record { words = hr.words.size; bits = hr.words.fits; index = hx.size; nonzero = hr.size };
@@ -291,7 +293,11 @@ module _ (b : List ℕ) (acc : Accepted b) {D W X N : List ℕ} (hd : FullDomain
       ∙ mask_of_same 32 _ _ (λ v m. sym (and_true (ltb v (values_of b c))) ∙ ap (λ (n : ℕ). ltb v n && true) (sym (count_at b c k)))
       ∙ sym (get_or-tab 0 (column_count (book_of b)) _ c (omega (arith, columns_count b))))
 
-  pub opening_state : {D' W' X' N' : List ℕ} → Propagated b D D' W' X' N' → StateOf (book_of b) (domains (book_of b) []) D' W' X' N'
+  pub opening_state : {t : State} → Propagated b D t → StateIs b [] t
   unfolding domains
-  opening_state {D'} {W'} {X'} {N'} h =
-      subst (λ (A : List ℕ). StateOf (book_of b) (closure (book_of b) A) D' W' X' N') full_allowed h.state
+  opening_state {t} h = record {
+    holds =
+        subst (λ (A : List ℕ). StateOf (book_of b) (closure (book_of b) A) t.dom t.rows.valid t.rows.index t.rows.nonzero) full_allowed h.state;
+    store = h.store;
+    sized = h.sized;
+  }

@@ -33,7 +33,9 @@ use Rattle.words.specs.Sheets.{AtSheet, IndexOf, OnlySheet, Sized, first_byte}
 use Rattle.words.proofs.Places.{column_value, columns_size, formed, sheet_at_is, sheet_in, width_most, valid_e}
 use Rattle.engine.specs.Layouts.{LayoutOf}
 use Rattle.engine.specs.Propagation.{Fixpoint, Ready, closure_in, store_in, Propagated}
+use Rattle.engine.specs.States.{Emptied, state_of}
 use Rattle.engine.specs.Worklists.{Woken, touches}
+use Rattle.engine.specs.declared.state.State.{State}
 use Rattle.engine.proofs.Worklists.{eight_sheets, touched_sheet, untouched_column, woken_same}
 
 -- ---- stores in an array of sixteen domains
@@ -167,9 +169,9 @@ module _ (b : List ℕ) (acc : Accepted b) where
   pub at_laid : {begins scopes shorts : List ℕ} → LayoutOf b begins scopes shorts → (s : ℕ) → s < sheets_of b → AtSheet b (get_or begins s 0) s
   at_laid h s l = record { accepted = acc; one = l; begins = h.starts s l }
 
-  pub going_start : {opening : Bool} {waiting column : ℕ} {D W X N : List ℕ} → Ready b opening waiting column D W X N
-      → Going b opening D D W X N (replicate 8 column) waiting
-  going_start {opening} {waiting} {column} {D} {W} {X} {N} h = record {
+  pub going_start : {opening : Bool} {waiting column : ℕ} {st : State} → Ready b opening waiting column st
+      → Going b opening st.dom st.dom st.rows.valid st.rows.index st.rows.nonzero (replicate 8 column) waiting
+  going_start {opening} {waiting} {column} {st} h = record {
     start = h.store;
     store = h.store;
     sized = h.sized;
@@ -179,9 +181,9 @@ module _ (b : List ℕ) (acc : Accepted b) where
         record {
           lower =
               within_trans
-              (closure_within (column_count (book_of b)) (supported (book_of b)) (supported_mono (book_of b)) (store_in b D) (is_store_in b h.store))
-              (store_within b D);
-          upper = within_store b D h.past;
+              (closure_within (column_count (book_of b)) (supported (book_of b)) (supported_mono (book_of b)) (store_in b st.dom) (is_store_in b h.store))
+              (store_within b st.dom);
+          upper = within_store b st.dom h.past;
         };
     filled = h.filled;
     sheet = λ s l. rw (all s l) (known_as (λ e. go s l e (either opening) (either (bit s waiting))) (h.sheet s l));
@@ -241,7 +243,7 @@ module _ (b : List ℕ) (acc : Accepted b) where
               let u = supported_in_mono (closure_in b D₀) D h.between.lower column v.0 sheet (all_in_e (book_of b).sheets (supported_in (closure_in b D₀) column v.0) t sheet (sheet_in a)) in
               absurd (false≢true (sym (r.failed z 0 v.0 (width_most a).0) ∙ ap (λ (k : ℕ). supported_in D k v.0 sheet) (sym (column_value a 0 (width_most a).0)) ∙ u))
 
-      pub going_failed : satisfied ≡ false → Fixpoint b D₀ D' W' X' N' false
+      pub going_failed : satisfied ≡ false → Fixpoint b D₀ (state_of D' W' X' N') false
       going_failed z = record {
         store = r.loses.store;
         sized = r.sized;
@@ -393,7 +395,7 @@ module _ (b : List ℕ) (acc : Accepted b) where
             indexed = λ s l. (h.sheet s (omega (arith, sheets_count b))).seen.indexed;
           })
 
-      pub going_done : Fixpoint b D₀ D W X N true
+      pub going_done : Fixpoint b D₀ (state_of D W X N) true
       going_done = record {
         store = h.store;
         sized = h.sized;
@@ -463,6 +465,11 @@ module _ (b : List ℕ) (acc : Accepted b) where
     nonzero = length-replicate {A = ℕ} 8 0;
   }
 
-  pub propagated_failed : {D E W X N : List ℕ} → Fixpoint b D E W X N false → Propagated b D (replicate 16 0) (replicate 64 0) X (replicate 8 0)
-  propagated_failed {D} {E} {W} {X} {N} h =
-      record { store = empty_domains; sized = empty_sized h.sized; state = rw (h.failed refl) (empty_state W X N h.indexed) }
+  pub propagated_failed : {D : List ℕ} {st t : State} → Fixpoint b D st false → Emptied st t → Propagated b D t
+  propagated_failed {D} {st} {t} h e = record {
+    store = rw e.dom empty_domains;
+    sized = rw (e.valid, e.index, e.nonzero) (empty_sized h.sized);
+    state =
+        rw (h.failed refl, e.dom, e.valid, e.index, e.nonzero)
+        (empty_state st.rows.valid st.rows.index st.rows.nonzero h.indexed);
+  }

@@ -35,7 +35,7 @@ use Rattle.words.proofs.Places.{sheet_in}
 use Rattle.cells.proofs.Walks.{shifted_bit}
 use Rattle.engine.specs.Layouts.{LayoutOf}
 use Rattle.engine.specs.Propagation.{Ready, Propagated, closure_in, store_in}
-use Rattle.engine.specs.States.{Emptied, Narrows}
+use Rattle.engine.specs.States.{Emptied, Narrows, state_of}
 use Rattle.engine.specs.Worklists.{WaitingFor}
 use Rattle.engine.specs.declared.state.State.{State}
 use Rattle.engine.proofs.Propagation.{at_sheet, columns_count, empty_domains, empty_sized, empty_state, no_value, sheets_count, is_store_in}
@@ -148,7 +148,7 @@ module _ (b : List ℕ) (acc : Accepted b) (L : List Entry) {D W X N : List ℕ}
               empty_entry k = no_value b acc k
 
       pub narrow_ready : {begins M S : List ℕ} → LayoutOf b begins M S → {waiting : ℕ} → WaitingFor M ((1 * 2 ^ c) % 2 ^ 32) 8 waiting
-          → Ready b false waiting ((1 * 2 ^ c) % 2 ^ 32) (meet D c m) W X N
+          → Ready b false waiting ((1 * 2 ^ c) % 2 ^ 32) (state_of (meet D c m) W X N)
       unfolding has supported
       narrow_ready {begins} {M} lay {waiting} w = record {
         store = meet_store 16 D c m d small;
@@ -208,15 +208,15 @@ module _ (b : List ℕ) (acc : Accepted b) (c m : ℕ) (l : c < columns_of b) (s
   state_emptied t e z L h = record {
     holds =
         rw (narrow_failed b acc L h.holds h.store h.sized c m l z, e.dom, e.valid, e.index, e.nonzero)
-        (empty_state b acc st.valid st.index st.nonzero (sheet_index b acc L h.holds h.store h.sized));
+        (empty_state b acc st.rows.valid st.rows.index st.rows.nonzero (sheet_index b acc L h.holds h.store h.sized));
     store = rw e.dom (empty_domains b acc);
     sized = rw (e.valid, e.index, e.nonzero) (empty_sized b acc h.sized);
   }
 
-  pub state_propagated : (t : State) → Propagated b (meet st.dom c m) t.dom t.valid t.index t.nonzero → Narrows b c m st t
+  pub state_propagated : (t : State) → Propagated b (meet st.dom c m) t → Narrows b c m st t
   state_propagated t s L h = record {
     holds =
-        subst (λ (E : List ℕ). StateOf (book_of b) E t.dom t.valid t.index t.nonzero) (met_closure b acc L h.holds h.store h.sized c m l) s.state;
+        subst (λ (E : List ℕ). StateOf (book_of b) E t.dom t.rows.valid t.rows.index t.rows.nonzero) (met_closure b acc L h.holds h.store h.sized c m l) s.state;
     store = s.store;
     sized = s.sized;
   }

@@ -55,6 +55,14 @@ module _ (b : List ℕ) (acc : Accepted b) where
   pub rows_end : (s : ℕ) → s < sheets_of b → first_byte b s + 512 * blocks_of b s ≤ 16896
   rows_end s l = omega (arith, right_length b (accepted_right b acc).length_right, rows_there s l)
 
+-- how many columns, or sheets, the head h of the book counts: the end of a loop over them
+module _ {b h : List ℕ} {n : ℕ} (acc : Accepted b) (e : h ≡ b) where
+  pub columns_counted : n ≡ columns_of h → (n ≡ columns_of b) × (n ≤ 16)
+  columns_counted f = (f ∙ ap columns_of e, omega (arith, f, ap columns_of e, (columns_range b (accepted_right b acc).head).1))
+
+  pub sheets_counted : n ≡ sheets_of h → (n ≡ sheets_of b) × (n ≤ 8)
+  sheets_counted f = (f ∙ ap sheets_of e, omega (arith, f, ap sheets_of e, sheets_most b (accepted_right b acc).head))
+
 -- another number than n is below n + 1 exactly when it is below n
 ltb_next : (f n : ℕ) → (f ≡ n → ⊥) → ltb f n ≡ ltb f (n + 1)
 ltb_next f n m = go (below f n)

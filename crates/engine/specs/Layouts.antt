@@ -8,10 +8,10 @@ use Rattle.heads.specs.Heads.{column_of, sheets_of, width_of}
 use Rattle.book.specs.Verdicts.{Accepted}
 use Rattle.words.specs.Sheets.{ShortPlaces, first_byte}
 
--- m has the columns of sheet s, and no other
+-- m has the columns of sheet s, and no other. The bars make it a fact without a choice of j, as a ghost field wants
 pub record ColumnsIn (b : List ℕ) (s m : ℕ) : Type 0 where
   pub all : (j : ℕ) → j < width_of b s → bit (column_of b s j) m ≡ true
-  pub only : (c : ℕ) → bit c m ≡ true → (j : ℕ) × (j < width_of b s) × (column_of b s j ≡ c)
+  pub only : (c : ℕ) → bit c m ≡ true → ∥ ((j : ℕ) × (j < width_of b s) × (column_of b s j ≡ c)) ∥₁
 
 -- where the rows of each sheet of an accepted book begin, and where it has 255: what is asked of the book's layout by all that does not propagate
 pub record SheetsLaid (b begins shorts : List ℕ) : Type 0 where

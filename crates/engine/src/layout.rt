@@ -1,6 +1,5 @@
 // What the engine keeps of a book: where the rows of each sheet begin, its columns as a mask, and the places at which a row of it has 255.
-ghost use Rattle.std.specs.Prelude.{◌≡◌, ◌*◌, ◌<◌, get_or};
-ghost use Rattle.rows.specs.Rows.{first_block};
+ghost use Rattle.std.specs.Prelude.{◌≡◌, ◌<◌, get_or};
 ghost use Rattle.heads.specs.Heads.{sheets_of};
 ghost use Rattle.words.specs.Sheets.{ShortPlaces};
 ghost use Rattle.engine.specs.Layouts.{ColumnsIn, LayoutOf, SheetsLaid};
@@ -11,7 +10,7 @@ use heads::head::Head;
 use rows::row::*;
 use words::sheet::*;
 
-// The book, and of each of its sheets the byte at which its rows begin and the places at which a row has 255.
+// The book, and of each of its sheets the byte at which its rows begin and the places at which a row has 255. Two arrays: `SheetsLaid` speaks of each.
 #[derive(Clone, Copy)]
 pub struct Sheets<'a> {
     pub book: &'a [u8],
@@ -52,27 +51,25 @@ pub struct Layout<'a> {
     ghost all: { LayoutOf sheets.book.now sheets.begins scopes sheets.shorts },
 }
 
-// The columns of sheet s as a mask.
-fn columns_of(book: &Book<'_>, s: usize) -> u32
-    requires { s < sheets_of book.now.bytes.now }
-    ensures { ColumnsIn book.now.bytes.now s result }
+// The columns of a sheet as a mask.
+fn columns_of(sheet: &Sheet<'_>) -> u32
+    ensures { ColumnsIn sheet.now.book.now sheet.now.number result }
 {
-    let head = book.head();
     let mut columns = 0;
-    for j in 0..head.width(s) {
-        columns |= 1u32 << head.column(s, j);
+    for j in 0..sheet.width() {
+        columns |= 1u32 << sheet.column(j);
     }
     columns
 }
 
-// The places at which a row of sheet s has 255, by the highest bit of each byte: of cells only 255 has it. The sheet's blocks begin at block `start`.
-fn shorts_of(book: &Book<'_>, s: usize, start: usize) -> u32
-    requires { (s < sheets_of book.now.bytes.now) × (start ≡ first_block book.now.bytes.now s) }
-    ensures { ShortPlaces book.now.bytes.now s result }
+// The places at which a row of a sheet has 255, by the highest bit of each byte: of cells only 255 has it.
+fn shorts_of(sheet: &Sheet<'_>) -> u32
+    ensures { ShortPlaces sheet.now.book.now sheet.now.number result }
 {
+    let start = sheet.begin / 512;
     let mut seen = 0;
-    for q in 0..blocks_of(&book.head(), s) {
-        seen |= joined_rows(&Block::of(book.bytes, start + q));
+    for q in 0..blocks_of(&sheet.head(), sheet.number) {
+        seen |= joined_rows(&Block::of(sheet.book, start + q));
     }
     seen & 0x8080_8080
 }
@@ -85,12 +82,17 @@ pub fn lay_out<'a>(book: &Book<'a>) -> Layout<'a>
     let mut begins = [0; 8];
     let mut scopes = [0; 8];
     let mut shorts = [0; 8];
-    let mut start = 1;
+    let mut begin = 512;
     for s in 0..head.sheets() {
-        begins[s] = 512 * start;
-        scopes[s] = columns_of(book, s);
-        shorts[s] = shorts_of(book, s, start);
-        start += blocks_of(&head, s);
+        let sheet = Sheet {
+            book: book.bytes,
+            number: s,
+            begin,
+        };
+        begins[s] = begin;
+        scopes[s] = columns_of(&sheet);
+        shorts[s] = shorts_of(&sheet);
+        begin += 512 * blocks_of(&head, s);
     }
     let sheets = Sheets {
         book: book.bytes,

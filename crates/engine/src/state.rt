@@ -105,7 +105,7 @@ pub fn opening(layout: &Layout<'_>) -> State
 
 impl State {
     // No value and no row.
-    pub fn empty(&mut self)
+    pub(crate) fn empty(&mut self)
         ensures { Emptied self.old self.new }
     {
         self.dom = [0; 16];

@@ -28,8 +28,8 @@ pub fn waiting_for(scopes: &[u32; 8], lost: u32) -> u32
     ensures { WaitingFor scopes.now lost 8 result }
 {
     let mut waiting = 0;
-    for f in 0..8 {
-        waiting |= waits(scopes[f], lost, f);
+    for (f, columns) in scopes.iter().enumerate() {
+        waiting |= waits(*columns, lost, f);
     }
     waiting
 }

@@ -13,10 +13,8 @@
 // to v is a narrow of c to v alone. So what `try_value` propagates is what a narrow would, and the caller's arrays stay as they are.
 #![tactic(auto)]
 
-ghost use Rattle.std.specs.Prelude.{◌≡◌, true, ◌<◌, ◌≤◌};
-ghost use Rattle.std.specs.Int.Count.{count_trailing_zeros};
+ghost use Rattle.std.specs.Prelude.{◌≡◌, ◌≤◌};
 ghost use Rattle.model.specs.Tests.{FirstOf};
-ghost use Rattle.model.specs.Masks.{bit};
 ghost use Rattle.engine.specs.Propagation.{is_open};
 ghost use Rattle.engine.specs.States.{SomeState};
 ghost use Rattle.search.specs.Searches.{FilledState, Finishes, OpenValue, Reaches, masks_in, number_in, search_after, search_in, tries_in};
@@ -55,9 +53,9 @@ impl Outcome {
     {
         match self {
             Outcome::StateOnly => 0,
-            Outcome::Found { tries, .. } => *tries,
-            Outcome::NotFound { tries } => *tries,
-            Outcome::Stopped { tries } => *tries,
+            Outcome::Found { tries, .. }
+            | Outcome::NotFound { tries }
+            | Outcome::Stopped { tries } => *tries,
         }
     }
 
@@ -68,8 +66,7 @@ impl Outcome {
         match self {
             Outcome::StateOnly => *dom,
             Outcome::Found { masks, .. } => *masks,
-            Outcome::NotFound { .. } => [0; 16],
-            Outcome::Stopped { .. } => [0; 16],
+            Outcome::NotFound { .. } | Outcome::Stopped { .. } => [0; 16],
         }
     }
 }
@@ -79,14 +76,6 @@ fn open_column(dom: &[u32; 16]) -> Option<usize>
     ensures { FirstOf (is_open dom.now) 0 16 result }
 {
     dom.iter().position(|d| two_or_more(*d))
-}
-
-// The lowest value of a domain.
-fn lowest_value(d: u32) -> u32
-    requires { 0 < d }
-    ensures { (result ≡ count_trailing_zeros 32 d) × (bit result d ≡ true) }
-{
-    u32::trailing_zeros(d)
 }
 
 // The search in a state that is not failed, when as many tries were made.
@@ -101,10 +90,8 @@ fn pick_column(layout: &Layout<'_>, state: &State, limit: u32, made: u32) -> Out
             tries: made,
         };
     };
-    let mut rest = state.dom[c];
     let mut tries = made;
-    while rest != 0 {
-        let v = lowest_value(rest);
+    for v in Places::of(u64::from(state.dom[c])) {
         if tries == limit {
             return Outcome::Stopped { tries: limit };
         }
@@ -112,7 +99,6 @@ fn pick_column(layout: &Layout<'_>, state: &State, limit: u32, made: u32) -> Out
             Outcome::NotFound { tries: all } => tries = all,
             found_or_stopped => return found_or_stopped,
         }
-        rest = others(rest);
     }
     Outcome::NotFound { tries }
 }

@@ -4,7 +4,7 @@ ghost use Rattle.model.specs.Orders.{back_causes, finish_causes, first_cause, ki
 ghost use Rattle.book.specs.Decoding.{book_of};
 ghost use Rattle.heads.specs.Heads.{columns_of};
 ghost use Rattle.sessions.specs.Holds.{RefusesAt};
-ghost use Rattle.sessions.specs.Reads.{order_is, refused_in, refused_number};
+ghost use Rattle.sessions.specs.Readings.{order_is, refused_in, refused_number};
 
 use book::Book;
 use engine::state::places_below;

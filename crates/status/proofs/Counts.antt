@@ -1,14 +1,17 @@
--- Laws of masks and counts that are gathered place by place. Assumes nothing.
+-- Laws of masks and counts that are gathered place by place, and of a list of which some element passes. Assumes nothing.
 use mathlib.Core.Path.{◌∙◌, ◌≡◌, ap, refl, sym}
 use mathlib.Core.Bool.{Bool, ◌||◌, cond, false, or-false, true}
 use mathlib.Core.Logic.{◌⊎◌, inl, inr}
+use mathlib.Core.List.{List, [], ◌∷◌}
 use Prim.Native.Nat.{◌+◌, ◌<◌, ◌^◌, ◌≤◌, ℕ}
 use native.Mathlib.Numerals.{add-one}
 use native.Mathlib.Omega.{arith}
-use lib.Bits.{bit_or, or_lt}
+use lib.Bits.{bit_or, or_lt, or_zero_r}
+use lib.ListN.{get_or, length}
 use lib.Pow.{pow-lt}
+use Rattle.std.specs.List.{list_any}
 use Rattle.model.specs.Masks.{bit, mask_of}
-use Rattle.model.specs.Tests.{count, one_if}
+use Rattle.model.specs.Tests.{any_below, count, one_if}
 use Rattle.model.proofs.Masks.{bit-mask_of, bit-mask_of_out, bit_of_zero, bit-or, bit_pow, bit_pow_other, mask_ext, mask_of_lt}
 use Rattle.model.proofs.Tallies.{count_last}
 use Rattle.model.proofs.Tests.{below, either}
@@ -48,6 +51,18 @@ mask_more {m} {w} n f e g =
         let z : v ≡ n = omega arith in rw (z, e, g, q, bit-mask_of_out n f n (omega arith), bit_pow n) refl
     at v l (inr p) (inr q) =
         let z : v ≡ n = omega arith in rw (z, e, g, q, bit-mask_of_out n f n (omega arith), bit_of_zero n) refl
+
+pub mask_less : {m : ℕ} (n : ℕ) (f : ℕ → Bool) → m ≡ mask_of n f → f n ≡ false → m ≡ mask_of (n + 1) f
+mask_less {m} n f e g = sym (or_zero_r m) ∙ mask_more n f e (sym (rw g refl))
+
+-- ---- some element passes
+any_listed : (p : ℕ → Bool) (xs : List ℕ) → list_any p xs ≡ any_below (length xs) (λ i. p (get_or xs i 0))
+unfolding any_below
+any_listed p [] = refl
+any_listed p (x ∷ xs) = ap (λ (t : Bool). p x || t) (any_listed p xs)
+
+pub any_of_list : {r : Bool} {n : ℕ} (p : ℕ → Bool) (xs : List ℕ) → r ≡ list_any p xs → length xs ≡ n → any_below n (λ i. p (get_or xs i 0)) ≡ r
+any_of_list {r} {n} p xs e l = sym (rw l at (e ∙ any_listed p xs))
 
 -- ---- a count, one place more
 pub one_more : {n : ℕ} (j : ℕ) (f : ℕ → Bool) → n ≡ count j f → f j ≡ true → n + 1 ≡ count (j + 1) f

@@ -32,12 +32,11 @@ use Rattle.heads.proofs.Heads.{column_inside, columns_range, sheets_most}
 use Rattle.words.specs.Sheets.{AtSheet, SheetWords, is_set}
 use Rattle.words.proofs.Places.{column_below, column_value, columns_size, sheet_in, valid_e, width_most}
 use Rattle.cover.specs.Covers.{SettledSheet, SizesTo}
-use Rattle.engine.specs.Layouts.{LayoutOf}
 use Rattle.engine.specs.Propagation.{store_in}
 use Rattle.engine.specs.States.{StateIs}
 use Rattle.engine.specs.declared.state.State.{State}
 use Rattle.engine.proofs.Propagation.{columns_count, no_value, is_store_in, store_is}
-use Rattle.status.specs.Status.{OpenState, SheetsLaid, SummaryIs, done_sheets, is_many, open_places, open_status}
+use Rattle.status.specs.Status.{OpenState, SummaryIs, done_sheets, is_many, open_places, open_status, status_number}
 use Rattle.status.specs.declared.Summary.{Summary}
 
 -- a mask with a place is not 0, and one that is not 0 has a place
@@ -51,30 +50,27 @@ filled_size x p h = let r = some_bit 32 x h p in some_count 32 (λ v. bit v x) r
 pub few_sheets : (b : List ℕ) → Accepted b → sheets_of b ≤ 8
 few_sheets b acc = sheets_most b (accepted_right b acc).head
 
-pub laid_sheets : {b begins scopes shorts : List ℕ} → LayoutOf b begins scopes shorts → SheetsLaid b begins shorts
-laid_sheets h = record { accepted = h.accepted; starts = h.starts; any = h.any }
-
 -- ---- a state that is not failed
-module _ {b : List ℕ} (acc : Accepted b) {D W X N : List ℕ} (o : OpenState b D W X N) where
+module _ {b : List ℕ} (acc : Accepted b) {st : State} (o : OpenState b st) where
   abbrev C : ℕ
   C = column_count (book_of b)
 
   abbrev E : List ℕ
-  E = store_in b D
+  E = store_in b st.dom
 
   few_columns : columns_of b ≤ 16
   few_columns = (columns_range b (accepted_right b acc).head).1
 
-  filled : (c : ℕ) → c < columns_of b → (v : ℕ) × (bit v (get_or D c 0) ≡ true)
+  filled : (c : ℕ) → c < columns_of b → (v : ℕ) × (bit v (get_or st.dom c 0) ≡ true)
   unfolding has
   filled c l = let r = o.consistent.filled c (omega (arith, columns_count b)) in (r.0, ap (bit r.0) (o.state.domain c) ∙ r.1)
 
-  all_filled_lem : all_filled (column_count (book_of b)) (store_in b D) ≡ true
+  all_filled_lem : all_filled (column_count (book_of b)) (store_in b st.dom) ≡ true
   all_filled_lem = filled_i C E (is_store_in b o.store) o.consistent.filled
 
-  module _ {Z : List ℕ} (z : SizesTo D 16 Z) where
+  module _ {Z : List ℕ} (z : SizesTo st.dom 16 Z) where
     -- each column holds one value exactly when none has more
-    assigned_closed : assigned (book_of b) (store_in b D) ≡ not (any_below 16 (is_many Z))
+    assigned_closed : assigned (book_of b) (store_in b st.dom) ≡ not (any_below 16 (is_many Z))
     unfolding assigned
     assigned_closed = go (either (any_below 16 (is_many Z)))
       where
@@ -98,7 +94,7 @@ module _ {b : List ℕ} (acc : Accepted b) {D W X N : List ℕ} (o : OpenState b
                     let one = eqb-true (size (get_or E c 0)) 1 (all_below_e C (λ c. eqb (size (get_or E c 0)) 1) f c (omega (arith, columns_count b))) in
                     omega (arith, many, sized c l, one)
                 clash c k many (inr l) =
-                    let none = z.at c k ∙ ap size (o.state.domain c ∙ get_or-tab_out (columns_of b) (λ c. get_or D c 0) c l) ∙ size_zero in
+                    let none = z.at c k ∙ ap size (o.state.domain c ∙ get_or-tab_out (columns_of b) (λ c. get_or st.dom c 0) c l) ∙ size_zero in
                     omega (arith, many, none)
         go (inr e) =
             rw e
@@ -107,7 +103,7 @@ module _ {b : List ℕ} (acc : Accepted b) {D W X N : List ℕ} (o : OpenState b
             let k : c < columns_of b = omega (arith, columns_count b) in
             let few : get_or Z c 0 ≤ 1 = ltb-false 1 _ (none_many c (omega (arith, few_columns)) (either (is_many Z c))) in
             let v = filled c k in
-            let some = filled_size (get_or D c 0) (some_value _ v.0 v.1) (o.store.bits c) in
+            let some = filled_size (get_or st.dom c 0) (some_value _ v.0 v.1) (o.store.bits c) in
             eq-eqb (size (get_or E c 0)) 1 (one (size (get_or E c 0)) (omega (arith, few, sized c k)) (omega (arith, some, ap size (o.state.domain c))))))
           where
             none_many : (c : ℕ) → c < 16 → (is_many Z c ≡ true) ⊎ (is_many Z c ≡ false) → is_many Z c ≡ false
@@ -117,7 +113,7 @@ module _ {b : List ℕ} (acc : Accepted b) {D W X N : List ℕ} (o : OpenState b
             one : (x : ℕ) → x ≤ 1 → 0 < x → x ≡ 1
             one x p q = omega arith
 
-    pub status_open : open_status Z ≡ status_of (book_of b) (store_in b D)
+    pub status_open : open_status Z ≡ status_of (book_of b) (store_in b st.dom)
     unfolding open_status status_of
     status_open = sym (rw (all_filled_lem, assigned_closed) (flip (any_below 16 (is_many Z))))
       where
@@ -135,31 +131,31 @@ module _ {b : List ℕ} (acc : Accepted b) {D W X N : List ℕ} (o : OpenState b
     inside = omega (arith, a.one, length-tab (sheets_of b) (sheet_of b))
 
     -- the array and the store have the same domains
-    same_picks : pick D sheet.columns ≡ pick (store_in b D) sheet.columns
-    same_picks = pick_same D E sheet.columns (λ i l. o.state.domain (get_or sheet.columns i 0))
+    same_picks : pick st.dom sheet.columns ≡ pick (store_in b st.dom) sheet.columns
+    same_picks = pick_same st.dom E sheet.columns (λ i l. o.state.domain (get_or sheet.columns i 0))
 
-    rows_valid : (w : ℕ) → w < 8 → of_sheet W s w ≡ valid_word D sheet w
-    rows_valid w l = o.state.rows s w inside l ∙ words_same E D sheet (sym same_picks) w
+    rows_valid : (w : ℕ) → w < 8 → of_sheet st.rows.valid s w ≡ valid_word st.dom sheet w
+    rows_valid w l = o.state.rows s w inside l ∙ words_same E st.dom sheet (sym same_picks) w
 
-    pub sheet_words : SheetWords b s W X N
+    pub sheet_words : SheetWords b s st.rows.valid st.rows.index st.rows.nonzero
     unfolding is_set
     sheet_words = record { inside = record { at = at }; indexed = o.state.indexed s inside; sized = o.sized }
       where
-        at : (r : ℕ) → r < 512 → is_set W s r ≡ true → r < rows_of b s
+        at : (r : ℕ) → r < 512 → is_set st.rows.valid s r ≡ true → r < rows_of b s
         at r l e =
             let z : 64 * (r / 64) + r % 64 ≡ r = omega arith in
-            (valid_e a D r (rw (rows_valid (r / 64) (omega arith), word_row D sheet (r / 64) (r % 64) (omega arith), z) at e)).0
+            (valid_e a st.dom r (rw (rows_valid (r / 64) (omega arith), word_row st.dom sheet (r / 64) (r % 64) (omega arith), z) at e)).0
 
-    pub settled_sheet : SettledSheet b s D W
+    pub settled_sheet : SettledSheet b s st.dom st.rows.valid
     settled_sheet = record {
       rows = rows_valid;
       filled = λ j l. filled (column_of b s j) (column_inside b (accepted_right b acc).head s a.one j l);
     }
 
     -- with at most one open column every choice is allowed
-    pub few_open : {Z : List ℕ} → SizesTo D 16 Z → open_places b s Z (width_of b s) ≤ 1 → subsumed D sheet ≡ true
+    pub few_open : {Z : List ℕ} → SizesTo st.dom 16 Z → open_places b s Z (width_of b s) ≤ 1 → subsumed st.dom sheet ≡ true
     few_open {Z} z n =
-        subsumed_same D E sheet same_picks
+        subsumed_same st.dom E sheet same_picks
         ∙ (subsumed_iff E (is_store_in b o.store).bits sheet).1
         (one_open (book_of b) E (is_store_in b o.store).bits o.consistent sheet (sheet_in a) (omega (arith, columns_size a, (width_most a).0)) two)
       where
@@ -175,14 +171,14 @@ module _ {b : List ℕ} (acc : Accepted b) {D W X N : List ℕ} (o : OpenState b
             let most = two_count (width_of b s) (λ j. is_many Z (column_of b s j)) i j li lj (open_place i li u) (open_place j lj v) (λ e. omega arith) in
             omega (arith, n, most)
 
-  pub done_open : done_sheets b D (sheets_of b) ≡ done_of (book_of b) (store_in b D)
+  pub done_open : done_sheets b st.dom (sheets_of b) ≡ done_of (book_of b) (store_in b st.dom)
   unfolding done_sheets done_of book_of
   done_open =
       sym
       (rw (all_filled_lem)
       (ap (λ (n : ℕ). mask_of n (λ s. subsumed E (sheet_at (book_of b) s))) (length-tab (sheets_of b) (sheet_of b))
-      ∙ mask_of_same (sheets_of b) (λ s. subsumed E (sheet_at (book_of b) s)) (λ s. subsumed D (sheet_at (book_of b) s))
-      (λ s l. sym (subsumed_same D E (sheet_at (book_of b) s) (same_picks (record { accepted = acc; one = l; begins = refl }))))))
+      ∙ mask_of_same (sheets_of b) (λ s. subsumed E (sheet_at (book_of b) s)) (λ s. subsumed st.dom (sheet_at (book_of b) s))
+      (λ s l. sym (subsumed_same st.dom E (sheet_at (book_of b) s) (same_picks (record { accepted = acc; one = l; begins = refl }))))))
 
 -- ---- the state of a trail
 module _ {b : List ℕ} (acc : Accepted b) {L : List Entry} {st : State} (h : StateIs b L st) where
@@ -197,11 +193,11 @@ module _ {b : List ℕ} (acc : Accepted b) {L : List Entry} {st : State} (h : St
   some_column : 0 < column_count (book_of b)
   some_column = omega (arith, columns_count b, (columns_range b (accepted_right b acc).head).0)
 
-  pub is_open : (get_or st.dom 0 0 ≡ 0 → ⊥) → OpenState b st.dom st.valid st.index st.nonzero
+  pub is_open : (get_or st.dom 0 0 ≡ 0 → ⊥) → OpenState b st
   is_open n = go closed
     where
       go : ConsistentStore (book_of b) (domains (book_of b) L) ⊎ (domains (book_of b) L ≡ empty_store (column_count (book_of b)))
-          → OpenState b st.dom st.valid st.index st.nonzero
+          → OpenState b st
       go (inl k) = record { store = h.store; sized = h.sized; consistent = rw state_store k; state = rw state_store h.holds }
       go (inr e) = absurd (n (h.holds.domain 0 ∙ ap (λ (D : List ℕ). get_or D 0 0) e ∙ no_value b acc 0))
 
@@ -217,11 +213,11 @@ module _ {b : List ℕ} (acc : Accepted b) {L : List Entry} {st : State} (h : St
           let r = filled_e (column_count (book_of b)) (domains (book_of b) L) f 0 some_column in
           absurd (false≢true (sym (bit_of_zero r.0) ∙ ap (bit r.0) (sym e ∙ h.holds.domain 0) ∙ r.1))
 
-  pub failed_summary : get_or st.dom 0 0 ≡ 0 → (r : Summary) → r.status ≡ 0 → r.done ≡ 0 → SummaryIs b L r
+  pub failed_summary : get_or st.dom 0 0 ≡ 0 → (r : Summary) → status_number r.status ≡ 0 → r.done ≡ 0 → SummaryIs b L r
   unfolding status_of done_of
   failed_summary e r p q = record { status = p ∙ sym (rw (not_filled e) refl); done = q ∙ sym (rw (not_filled e) refl) }
 
-  pub open_summary : (get_or st.dom 0 0 ≡ 0 → ⊥) → {Z : List ℕ} → SizesTo st.dom 16 Z → (r : Summary) → r.status ≡ open_status Z
+  pub open_summary : (get_or st.dom 0 0 ≡ 0 → ⊥) → {Z : List ℕ} → SizesTo st.dom 16 Z → (r : Summary) → status_number r.status ≡ open_status Z
       → r.done ≡ done_sheets b st.dom (sheets_of b) → SummaryIs b L r
   open_summary n z r p q = record {
     status = p ∙ status_open acc (is_open n) z ∙ ap (status_of (book_of b)) state_store;

@@ -49,9 +49,10 @@ fn open_status(sizes: &[u32; 16]) -> Status
     ensures { status_number result ≡ open_status sizes.now }
 {
     if sizes.iter().any(|n| 1 < *n) {
-        return Status::Open;
+        Status::Open
+    } else {
+        Status::Decided
     }
-    Status::Decided
 }
 
 // How many columns of a sheet are open.

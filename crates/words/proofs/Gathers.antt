@@ -99,20 +99,6 @@ covered_sets x y p q e =
           (c.at 2 v (omega arith)) (c.at 3 v (omega arith)) j l;
     }
 
--- four sets that are the same
-pub same_sets : (x : ℕ) → x < 2 ^ 32 → SmallSets (replicate 4 x)
-same_sets x l = record { size = refl; fits = each }
-  where
-    each : (j : ℕ) → get_or (replicate 4 x) j 0 < 2 ^ 32
-    each zero = l
-    each (suc zero) = l
-    each (suc (suc zero)) = l
-    each (suc (suc (suc zero))) = l
-    each (suc (suc (suc (suc j)))) = omega arith
-
-pub no_sets : SmallSets (replicate 4 0)
-no_sets = same_sets 0 (omega arith)
-
 -- ---- the walk over the words
 -- what the last five bits of a cell are, the cell matches
 low_matches : {x v : ℕ} → IsCell x → x % 32 ≡ v → matches x v ≡ true
@@ -333,24 +319,6 @@ module _ {b : List ℕ} {begin s : ℕ} (a : AtSheet b begin s) {W X N : List �
           → bit v (get_or (set y j ones32) i 0) ≡ true
       put i v (inl e) m g = let q = eqb-true i j e in rw (q, here) (ones_bit 32 v m)
       put i v (inr e) m g = let n = eqb-false i j e in rw (get_or-set_other y j i ones32 0 n) (g n)
-
--- ---- the domains of the places
-pub wanted_none : {b : List ℕ} {s : ℕ} {D x : List ℕ} → x ≡ replicate 4 1 → Wanted b s D 0 x
-wanted_none {b} {s} {D} {x} e = record { small = rw e (same_sets 1 (omega arith)); at = λ j l. absurd (omega arith); rest = λ j l m. ap (λ (y : List ℕ). get_or y j 0) e ∙ four_all (λ j. ◌≡◌ {A = ℕ} (get_or (replicate 4 1) j 0) 1) refl refl refl refl j m }
-
-pub wanted_more : {b : List ℕ} {s n c : ℕ} {D x : List ℕ} → Wanted b s D n x → n < 4 → c ≡ column_of b s n → IsStore 16 D → Wanted b s D (n + 1) (set x n (get_or D c 0))
-wanted_more {b} {s} {n} {c} {D} {x} h l e d =
-    record {
-      small = record { size = length-set x n _ ∙ h.small.size; fits = set_below x n (get_or D c 0) (2 ^ 32) (d.bits c) h.small.fits };
-      at = λ j m. go j (below j n) m;
-      rest = λ j m q. get_or-set_other x n j (get_or D c 0) 0 (λ z. omega arith) ∙ h.rest j (omega arith) q;
-    }
-  where
-    go : (j : ℕ) → (j < n) ⊎ (n ≤ j) → j < n + 1 → get_or (set x n (get_or D c 0)) j 0 ≡ get_or D (column_of b s j) 0
-    go j (inl p) m = get_or-set_other x n j (get_or D c 0) 0 (λ z. omega arith) ∙ h.at j p
-    go j (inr p) m =
-        let z : j ≡ n = omega arith in
-        rw z (get_or-set_same x n (get_or D c 0) 0 (omega (arith, h.small.size)) ∙ ap (λ (i : ℕ). get_or D i 0) e)
 
 -- ---- in the model's words: a sheet that allows its rows
 module _ {b : List ℕ} {begin s : ℕ} (a : AtSheet b begin s) (plain : forbids_of b s ≡ false) where

@@ -49,15 +49,6 @@ module _ {b : List ℕ} {begin s : ℕ} (a : AtSheet b begin s) where
   pub column_below : (j : ℕ) → j < width_of b s → column_of b s j < 16
   column_below j l = omega (arith, column_inside b right.head s a.one j l, (columns_range b right.head).1)
 
-  -- two places have two columns
-  pub column_once : (i j : ℕ) → i < width_of b s → j < width_of b s → column_of b s i ≡ column_of b s j → i ≡ j
-  column_once i j li lj e = go (below i j) (below j i)
-    where
-      go : (i < j) ⊎ (j ≤ i) → (j < i) ⊎ (i ≤ j) → i ≡ j
-      go (inl p) q = absurd (omega (arith, rises b right s a.one i j p lj))
-      go (inr p) (inl q) = absurd (omega (arith, rises b right s a.one j i q li))
-      go (inr p) (inr q) = omega arith
-
   -- ---- the rows
   same_place : (r j : ℕ) → row_place b s r + j ≡ cell_place begin r j
   unfolding row_place

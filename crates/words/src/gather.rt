@@ -56,10 +56,7 @@ fn may_miss(shorts: u32, j: usize, x: u32, y: u32) -> bool
     requires { j < 4 }
     ensures { result ≡ false → NothingMissed shorts j x y }
 {
-    if (shorts >> (8 * (j as u32) + 7)) % 2 == 0 {
-        return false;
-    }
-    x & !y != 0
+    (shorts >> (8 * (j as u32) + 7)) % 2 == 1 && x & !y != 0
 }
 
 // Every value at place j, where a row that is set has 255 there.
@@ -67,10 +64,8 @@ fn widen(laid: &LaidSheet<'_>, j: usize, x: &[u32; 4], seen: &mut [u32; 4], rows
     requires { SheetWords laid.now.sheet.book.now laid.now.sheet.number rows.now.valid rows.now.index rows.now.nonzero × (j < 4) × Widened laid.now.sheet.book.now laid.now.sheet.number rows.now.valid x.now seen.old j }
     ensures { Widened laid.now.sheet.book.now laid.now.sheet.number rows.now.valid x.now seen.new (j + 1) }
 {
-    if may_miss(laid.shorts, j, x[j], seen[j]) {
-        if any_at(&laid.sheet, j, rows) {
-            seen[j] = u32::MAX;
-        }
+    if may_miss(laid.shorts, j, x[j], seen[j]) && any_at(&laid.sheet, j, rows) {
+        seen[j] = u32::MAX;
     }
 }
 
@@ -92,12 +87,8 @@ pub fn carried(laid: &LaidSheet<'_>, x: &[u32; 4], rows: &Rows) -> [u32; 4]
 {
     match gather(&laid.sheet, x, rows) {
         ControlFlow::Break(seen) => seen,
-        ControlFlow::Continue(seen) => {
-            if laid.shorts == 0 {
-                return seen;
-            }
-            widen_places(laid, x, seen, rows)
-        }
+        ControlFlow::Continue(seen) if laid.shorts == 0 => seen,
+        ControlFlow::Continue(seen) => widen_places(laid, x, seen, rows),
     }
 }
 

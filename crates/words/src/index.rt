@@ -40,18 +40,19 @@ impl Rows {
         let mut rows: u32 = 0;
         for p in 0..n {
             let (_, word) = self.word(s, p);
-            rows = rows + word.count_ones();
+            rows += word.count_ones();
         }
         rows
     }
 
     // Position p of the index of sheet s, whose word became zero, goes past the limit: it changes places with the last one at or below it.
-    pub fn drop_word(&mut self, s: usize, p: usize)
+    pub(crate) fn drop_word(&mut self, s: usize, p: usize)
         requires { (s < 8) × (p < get_or self.old.nonzero s 0) × (get_or self.old.nonzero s 0 ≤ 8) }
         ensures { (self.new.index ≡ swapped self.old.index (8 * s + p) (8 * s + (get_or self.old.nonzero s 0 - 1))) × (self.new.nonzero ≡ set self.old.nonzero s (get_or self.old.nonzero s 0 - 1)) × (self.new.valid ≡ self.old.valid) }
     {
         let n = self.nonzero[s] - 1;
-        self.index.swap(8 * s + p, 8 * s + usize::from(n));
+        let last = 8 * s + usize::from(n);
+        self.index.swap(8 * s + p, last);
         self.nonzero[s] = n;
     }
 }

@@ -1,19 +1,16 @@
-use mathlib.Core.Path.{◌∙◌, sym}
-use native.Mathlib.Omega.{arith}
-use Rattle.model.proofs.Firsts.{first_in_end, first_in_found, none_empty, none_more}
+use Prim.Native.Nat.{ℕ}
+use lib.Dec.{ltb}
+use Rattle.std.proofs.Common.{rules, tests}
+use Rattle.std.proofs.lemmas.Iterator.{YieldsList-from_slice}
+use Rattle.std.proofs.lemmas.Iterator.Search.{position_from_yields_List}
+use Rattle.model.specs.Masks.{size}
 use Rattle.engine.specs.Propagation.{is_open}
+use Rattle.search.proofs.Searches.{first_of_position}
 use Rattle.search.proofs.open_column.Goals as goal
 
-pub loop-c-init : goal.loop-c-init
-loop-c-init c = (omega arith, none_empty (omega arith))
-
-pub returns-then-two_or_more : goal.returns-then-two_or_more
-unfolding is_open
-returns-then-two_or_more c = first_in_found (omega arith) c.loop-c-test.true c.loop-c.invariant.1 (sym c.two_or_more.ensures ∙ c.if-two_or_more.true)
-
-pub loop-c-preserved : goal.loop-c-preserved
-unfolding is_open
-loop-c-preserved c = (omega (arith, c.loop-c-test.true), none_more c.loop-c.invariant.1 (sym c.two_or_more.ensures ∙ c.if-two_or_more.false))
-
 pub returns : goal.returns
-returns c = first_in_end (omega arith) c.loop-c.invariant.0 (omega (arith, c.loop-c-test.false)) c.loop-c.invariant.1
+unfolding is_open
+returns c =
+    let many = λ (d : ℕ). ltb 1 (size d) in
+    let found = position_from_yields_List many _ _ c.position.result c.position.ensures.ran (YieldsList-from_slice c.args.dom.now (cc)) (λ x b q k. search (rules, tests)) in
+    rw (found, ← c.told-dom) (first_of_position many c.args.dom.now)

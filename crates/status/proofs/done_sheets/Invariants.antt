@@ -1,10 +1,9 @@
 use mathlib.Core.Path.{◌≡◌}
-use Prim.Native.Nat.{◌-◌, ◌≤◌}
+use Prim.Native.Nat.{◌≤◌}
+use Rattle.heads.specs.Heads.{sheets_of}
 use Rattle.status.specs.Status.{done_sheets}
 use Rattle.status.proofs.done_sheets.Given as goal
 
 abbrev pub invariant-loop-s : goal.invariant-loop-s
-invariant-loop-s l = (l.s ≤ l.n) × (l.m ≡ done_sheets l.book l.dom l.s)
-
-abbrev pub decreases-loop-s : goal.decreases-loop-s
-decreases-loop-s l = l.n - l.s
+invariant-loop-s l =
+    (l.done ≡ done_sheets l.sheets.book.now l.state.dom l.s) × (l.s-end ≡ sheets_of l.sheets.book.now) × (l.s-end ≤ 8)

@@ -6,7 +6,8 @@ use Rattle.engine.proofs.Propagation.{Going}
 use Rattle.engine.proofs.propagate.fixpoint.Given as goal
 
 abbrev pub invariant-loop-left : goal.invariant-loop-left
-invariant-loop-left l = Going l.book l.opening l.initial.dom l.dom l.valid l.index l.nonzero l.changed l.left
+invariant-loop-left l =
+    Going l.layout.sheets.book.now l.opening l.initial.state.dom l.state.dom l.state.rows.valid l.state.rows.index l.state.rows.nonzero l.changed l.left
 
 abbrev pub decreases-loop-left : goal.decreases-loop-left
-decreases-loop-left l = 256 * values 16 l.dom + l.left
+decreases-loop-left l = 256 * values 16 l.state.dom + l.left

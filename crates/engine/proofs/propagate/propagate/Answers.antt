@@ -1,8 +1,10 @@
 use Rattle.engine.proofs.Propagation.{propagated_failed}
 use Rattle.engine.proofs.propagate.propagate.Goals as goal
 
-pub returns-then-fixpoint : goal.returns-then-fixpoint
-returns-then-fixpoint c = record { store = c.fixpoint.ensures.store; sized = c.fixpoint.ensures.sized; state = c.fixpoint.ensures.state c.if-fixpoint.true }
+pub returns-else-not-fixpoint : goal.returns-else-not-fixpoint
+returns-else-not-fixpoint c =
+    let left = c.fixpoint.ensures in
+    record { store = left.store; sized = left.sized; state = left.state c.if-not-fixpoint.false }
 
-pub returns : goal.returns
-returns c = rw (c.empty.ensures.0, c.empty.ensures.1, c.empty.ensures.2) (propagated_failed _ c.requires.0.accepted (rw c.if-fixpoint.false at c.fixpoint.ensures))
+pub returns-then-not-fixpoint : goal.returns-then-not-fixpoint
+returns-then-not-fixpoint c = propagated_failed _ c.args.layout.now.all.accepted c.if-not-fixpoint.ensures c.empty.ensures

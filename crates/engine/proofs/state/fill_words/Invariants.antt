@@ -1,9 +1,5 @@
-use Prim.Native.Nat.{◌-◌, ◌≤◌}
 use Rattle.engine.specs.Openings.{FullWords}
 use Rattle.engine.proofs.state.fill_words.Given as goal
 
 abbrev pub invariant-loop-w : goal.invariant-loop-w
-invariant-loop-w l = FullWords l.initial.valid l.s l.n l.w l.valid × (l.w ≤ 8)
-
-abbrev pub decreases-loop-w : goal.decreases-loop-w
-decreases-loop-w l = 8 - l.w
+invariant-loop-w l = FullWords l.initial.valid l.s l.n l.w l.valid

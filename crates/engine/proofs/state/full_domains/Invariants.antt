@@ -1,9 +1,8 @@
-use Prim.Native.Nat.{◌-◌, ◌≤◌}
+use mathlib.Core.Path.{◌≡◌}
+use Prim.Native.Nat.{◌≤◌}
+use Rattle.heads.specs.Heads.{columns_of}
 use Rattle.engine.specs.Openings.{FullDomains}
-use Rattle.engine.proofs.state.fill_domains.Given as goal
+use Rattle.engine.proofs.state.full_domains.Given as goal
 
 abbrev pub invariant-loop-c : goal.invariant-loop-c
-invariant-loop-c l = FullDomains l.book l.c l.dom × (l.c ≤ l.n)
-
-abbrev pub decreases-loop-c : goal.decreases-loop-c
-decreases-loop-c l = l.n - l.c
+invariant-loop-c l = FullDomains l.sheets.book.now l.c l.dom × (l.c-end ≡ columns_of l.sheets.book.now) × (l.c-end ≤ 16)

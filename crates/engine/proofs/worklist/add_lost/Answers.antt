@@ -1,13 +1,13 @@
-use mathlib.Core.Path.{◌≡◌}
 use native.Mathlib.Omega.{arith}
+use mathlib.Core.Path.{◌≡◌}
 use Rattle.engine.proofs.Worklists.{added_more, added_none}
 use Rattle.engine.proofs.worklist.add_lost.Goals as goal
 
-pub loop-f-init : goal.loop-f-init
-loop-f-init c = (added_none _ c.requires, omega arith)
+pub loop-columns-init : goal.loop-columns-init
+loop-columns-init c = added_none _ c.told-changed
 
-pub loop-f-preserved : goal.loop-f-preserved
-loop-f-preserved c = (added_more c.loop-f.invariant.0 c.loop-f-test.true, omega (arith, c.loop-f-test.true))
+pub loop-columns-preserved : goal.loop-columns-preserved
+loop-columns-preserved c = added_more c.loop-columns.invariant c.loop-columns-test.true
 
 pub returns : goal.returns
-returns c = let e : c.loop-f.f ≡ 8 = omega (arith, c.loop-f-test.false, c.loop-f.invariant.1) in rw e at c.loop-f.invariant.0
+returns c = let end : c.loop-columns.columns-index ≡ 8 = omega arith in rw end at c.loop-columns.invariant

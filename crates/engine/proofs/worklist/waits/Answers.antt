@@ -10,6 +10,6 @@ pub returns-then-columns-lost-eq0 : goal.returns-then-columns-lost-eq0
 unfolding waits_bit touches
 returns-then-columns-lost-eq0 c = (rw (eq-eqb _ _ c.if-columns-lost-eq0.true) refl, omega arith)
 
-pub returns : goal.returns
+pub returns-else-columns-lost-eq0 : goal.returns-else-columns-lost-eq0
 unfolding waits_bit touches
-returns c = let e = shifted_one 32 c.args.f (omega (arith, c.requires)) in (e ∙ sym (rw (ne_eqb _ _ c.if-columns-lost-eq0.false) refl), rw e (pow-lt c.requires))
+returns-else-columns-lost-eq0 c = let e = shifted_one 32 c.args.f (omega (arith, c.requires)) in (e ∙ sym (rw (ne_eqb _ _ c.if-columns-lost-eq0.false) refl), rw e (pow-lt c.requires))

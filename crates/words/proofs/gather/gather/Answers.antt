@@ -1,11 +1,12 @@
 use mathlib.Core.Path.{refl}
 use native.Mathlib.Omega.{arith}
+use borrow.Author.Rules.{rules}
 use Rattle.words.proofs.Cuts.{there_at}
-use Rattle.words.proofs.Gathers.{no_sets, supporting_all, supporting_covered, supporting_more, supporting_start}
+use Rattle.words.proofs.Gathers.{supporting_all, supporting_covered, supporting_more, supporting_start}
 use Rattle.words.proofs.gather.gather.Goals as goal
 
 pub loop-p-init : goal.loop-p-init
-loop-p-init c = (supporting_start _ _ _ _ refl, no_sets)
+loop-p-init c = (supporting_start _ _ _ _ refl, search rules)
 
 pub gathered-requires : goal.gathered-requires
 gathered-requires c = let t = there_at c.args.sheet.now.at c.requires (omega (arith, c.nonzero_words-p-end.ensures.0)) c.word-w.ensures in (t.few, t.rows, t.near, c.loop-p.invariant.1)

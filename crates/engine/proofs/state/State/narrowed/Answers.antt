@@ -1,34 +1,37 @@
 -- Each goal of `narrowed`, by its name, but for those that a search finds. `c` is what is known at that place in the code: `c.args` the arguments, `c.requires` what the
--- function requires, then each call and test before it. offset_bounds-dom-c and bounds-dom-c: `dom[c]` lies in its array. returns-then-e-d, returns-then-e-eq0, returns: the
--- three ways out.
+-- function requires, then each call and test before it. offset_bounds-self-c and bounds-self-c: `self.dom[c]` lies in its array. propagate-requires: what
+-- propagation starts from (`narrow_ready`). returns-then-left-self, returns-then-left-eq0, returns: the three ways out.
 use Prim.Native.Nat.{◌<◌}
-use borrow.Author.Rules.{rules}
+use native.Mathlib.Omega.{arith}
 use Rattle.model.proofs.Tests.{positive}
-use Rattle.engine.proofs.States.{state_emptied, state_same}
+use Rattle.engine.proofs.States.{narrow_ready, state_emptied, state_propagated, state_same}
 use Rattle.engine.proofs.Worklists.{sixteen_columns}
 use Rattle.engine.proofs.state.State.narrowed.Goals as goal
 
-pub offset_bounds-dom-c : goal.offset_bounds-dom-c
-offset_bounds-dom-c c =
-    let sixteen : c.args.c < 16 = sixteen_columns _ c.requires.0.accepted _ c.requires.1 in
-    let l = sixteen in search (rules, l)
+pub offset_bounds-self-c : goal.offset_bounds-self-c
+offset_bounds-self-c c = let l : c.args.c < 16 = sixteen_columns _ c.args.layout.now.all.accepted _ c.requires.0 in omega arith
 
-pub bounds-dom-c : goal.bounds-dom-c
-bounds-dom-c c =
-    let sixteen : c.args.c < 16 = sixteen_columns _ c.requires.0.accepted _ c.requires.1 in
-    sixteen
+pub bounds-self-c : goal.bounds-self-c
+bounds-self-c c = sixteen_columns _ c.args.layout.now.all.accepted _ c.requires.0
 
-pub returns-then-e-d : goal.returns-then-e-d
-returns-then-e-d c = let p = c.requires in
-    state_same _ p.0.accepted _ _ p.1 _ c.if-e-d.true
+pub offset_bounds-self-c-2 : goal.offset_bounds-self-c-2
+offset_bounds-self-c-2 c = let l : c.args.c < 16 = sixteen_columns _ c.args.layout.now.all.accepted _ c.requires.0 in omega arith
 
-pub returns-then-e-eq0 : goal.returns-then-e-eq0
-returns-then-e-eq0 c = let p = c.requires in
-    state_emptied _ p.0.accepted _ _ p.1 _ _ c.failed.ensures c.if-e-eq0.true
+pub bounds-self-c-2 : goal.bounds-self-c-2
+bounds-self-c-2 c = sixteen_columns _ c.args.layout.now.all.accepted _ c.requires.0
 
-pub propagated-requires : goal.propagated-requires
-propagated-requires c = let p = c.requires in
-    (p.0, p.1, p.2, positive _ c.if-e-eq0.false)
+pub returns-then-left-self : goal.returns-then-left-self
+returns-then-left-self c = state_same _ c.args.layout.now.all.accepted _ _ c.requires.0 _ c.if-left-self.true
+
+pub returns-then-left-eq0 : goal.returns-then-left-eq0
+returns-then-left-eq0 c =
+    state_emptied _ c.args.layout.now.all.accepted _ _ c.requires.0 _ _ c.empty.ensures c.if-left-eq0.true
+
+pub propagate-requires : goal.propagate-requires
+propagate-requires c =
+    let lay = c.args.layout.now.all in
+    let is = c.requires.1.is in
+    narrow_ready _ lay.accepted c.requires.1.trail is.holds is.store is.sized _ _ c.requires.0 c.if-left-eq0.false lay c.waiting_for.ensures
 
 pub returns : goal.returns
-returns c = c.propagated.ensures
+returns c = state_propagated _ c.args.layout.now.all.accepted _ _ c.requires.0 _ _ c.propagate.ensures

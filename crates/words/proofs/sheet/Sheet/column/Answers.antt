@@ -1,5 +1,4 @@
 use Rattle.std.proofs.Common.{rules}
-use native.Mathlib.Omega.{arith}
 use Rattle.words.proofs.Places.{column_below, eight}
 use Rattle.words.proofs.sheet.Sheet.column.Goals as goal
 

@@ -1,5 +1,4 @@
 use Rattle.std.proofs.Common.{rules}
-use native.Mathlib.Omega.{arith}
 use Rattle.words.proofs.Places.{eight, width_most}
 use Rattle.words.proofs.sheet.Sheet.width.Goals as goal
 

@@ -8,7 +8,7 @@ use native.Mathlib.Nat.{lt_of_le_of_lt}
 use native.Mathlib.Omega.{arith}
 use lib.Bits.{and_le_l, bit_and, or_lt}
 use lib.Dec.{ltb}
-use lib.ListN.{get_or, length-replicate, replicate}
+use lib.ListN.{get_or, replicate}
 use borrow.Author.Tests.{eq-eqb, lt-ltb, ltb-true, not-true}
 use Rattle.model.specs.Books.{matches}
 use Rattle.model.specs.Masks.{Cleared, bit}

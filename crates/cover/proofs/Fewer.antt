@@ -9,12 +9,12 @@ use native.Mathlib.Numerals.{add-one}
 use native.Mathlib.Omega.{arith}
 use lib.Seq.{get_or-set_other, get_or-set_same}
 use lib.Count.{ones, count_trailing_zeros}
-use lib.ListN.{get_or, length, length-replicate, length-set, replicate, set}
+use lib.ListN.{get_or, length, length-set, set}
 use Rattle.model.specs.Books.{is_any}
 use Rattle.model.specs.Choices.{Takes, space}
 use Rattle.model.specs.Masks.{bit, size}
 use Rattle.model.specs.States.{of_sheet}
-use Rattle.model.specs.Stores.{IsStore, has}
+use Rattle.model.specs.Stores.{has}
 use Rattle.model.specs.Tests.{count, sum, tab}
 use Rattle.model.proofs.Books.{matches_plain}
 use Rattle.model.proofs.Masks.{bit_of_zero, bit_pow_only, cleared}

@@ -48,14 +48,14 @@ pub enum Order {
 }
 
 // The mask of an order.
-fn mask_of(order: &[u8; 8]) -> u32
+pub fn mask_of(order: &[u8; 8]) -> u32
     ensures { result ≡ mask order.now }
 {
     fields::word_at(order, 4)
 }
 
 // The limit of a finish, in the bytes of a mask: the tries that it may make.
-fn limit_of(order: &[u8; 8]) -> u32
+pub fn limit_of(order: &[u8; 8]) -> u32
     ensures { result ≡ try_limit order.now }
 {
     match mask_of(order) {

@@ -7,6 +7,8 @@ ghost use Rattle.model.specs.States.{of_sheet};
 ghost use Rattle.words.specs.Sheets.{IndexOf, rows_to, swapped};
 
 // The words of all sheets, the numbers of each sheet's words in the order of its index, and how many of them are not zero.
+//
+// Eight entries a sheet in one array, not an array of sheets: `of_sheet` (model, States), of which the theorems speak, reads entry 8 s + i.
 #[derive(Clone, Copy)]
 pub struct Rows {
     pub valid: [u64; 64],

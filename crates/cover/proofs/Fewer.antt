@@ -61,6 +61,10 @@ sizes_more {D} {Z} {n} d l h = record { all = length-set Z n _ ∙ h.all; at = �
 pub sizes_few : {D Z : List ℕ} → SizesTo D 16 Z → FewValues Z
 sizes_few {D} h = record { all = h.all; most = λ c l. rw (h.at c l) (count_most 32 (λ v. bit v (get_or D c 0))) }
 
+-- a place below the width, as the code reads it of the book's head
+pub in_width : {b head : List ℕ} (s : ℕ) {k j : ℕ} → head ≡ b → k ≡ width_of head s → j < k → j < width_of b s
+in_width s e w l = rw (← e, ← w) l
+
 module _ {b : List ℕ} {begin s : ℕ} (a : AtSheet b begin s) (shorts : ℕ) (Z : List ℕ) where
   -- one place more
   pub plain_free : (j : ℕ) {n c : ℕ} → bit (8 * j + 7) shorts ≡ false → c ≡ column_of b s j → n ≡ plain_in b s shorts Z j

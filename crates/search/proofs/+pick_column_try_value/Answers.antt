@@ -6,6 +6,8 @@ use Rattle.engine.proofs.Worklists.{sixteen_columns}
 use Rattle.search.proofs.Searches.{found_assigned, none_reached, picked_found, picked_none, picked_stopped, picked_value, untried_all, untried_less, value_fewer, value_filled, value_found, value_none, value_ready, value_small}
 use Rattle.search.proofs.+pick_column_try_value.Goals as goal
 
+-- Where no column is open, the domains are the solution.
+-- Else each value of the lowest open one is tried in turn: what is left to try is `Untried`, which a turn makes less.
 pub pick_column-returns-in_default : goal.pick_column-returns-in_default
 pick_column-returns-in_default t c = found_assigned _ c.args.layout.now.all.accepted c.requires.0 c.in_default.ensures c.requires.1
 

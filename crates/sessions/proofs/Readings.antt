@@ -13,12 +13,12 @@ use Rattle.heads.specs.Heads.{columns_of}
 use Rattle.heads.specs.Limits.{set_at}
 use Rattle.model.specs.Books.{column_count}
 use Rattle.model.specs.Masks.{bit}
-use Rattle.model.specs.Orders.{Cause, argument, back_causes, finish_causes, first_cause, kind, mark_causes, mask, narrow_causes, outside, refusal, refuse◌if◌, some_wrong, try_limit, wrong_place}
+use Rattle.model.specs.Orders.{Cause, argument, back_causes, finish_causes, first_cause, kind, mark_causes, mask, narrow_causes, outside, refusal, refuse◌if◌, some_wrong, try_limit, wrong_place, zero_places}
 use Rattle.model.specs.Tests.{Finds, all_below, one_if}
 use Rattle.model.proofs.Refusals.{refusal_other}
 use Rattle.model.proofs.Tests.{all_below_e, and_false, any_below_i, any_below_none, below}
 use Rattle.sessions.specs.Holds.{RefusesAt}
-use Rattle.sessions.specs.Readings.{order_is, refused_in, refused_number}
+use Rattle.sessions.specs.Readings.{order_is, refusal_with, refused_in, refused_number}
 use Rattle.sessions.specs.declared.orders.Order.{Order}
 use Rattle.sessions.specs.declared.orders.Refused.{Refused}
 use Rattle.sessions.specs.declared.orders.Refused.TheVariants as refused
@@ -57,21 +57,21 @@ zeros places a e o {t} p l h = go t h
 
 -- of each kind
 module _ (o : List ℕ) {t : Bool} where
-  pub zeros-narrow : Finds (set_at o) 2 4 t → some_wrong 12 o ≡ t
+  pub zeros-narrow : kind o ≡ 1 → Finds (set_at o) 2 4 t → some_wrong (zero_places (kind o)) o ≡ t
   unfolding all_below bit
-  zeros-narrow = zeros 12 2 4 o refl (omega arith)
+  zeros-narrow k h = rw k (zeros 12 2 4 o refl (omega arith) h)
 
-  pub zeros_mark : Finds (set_at o) 1 8 t → some_wrong 254 o ≡ t
+  pub zeros_mark : kind o ≡ 2 → Finds (set_at o) 1 8 t → some_wrong (zero_places (kind o)) o ≡ t
   unfolding all_below bit
-  zeros_mark = zeros 254 1 8 o refl (omega arith)
+  zeros_mark k h = rw k (zeros 254 1 8 o refl (omega arith) h)
 
-  pub zeros_back : Finds (set_at o) 2 8 t → some_wrong 252 o ≡ t
+  pub zeros_back : kind o ≡ 3 → Finds (set_at o) 2 8 t → some_wrong (zero_places (kind o)) o ≡ t
   unfolding all_below bit
-  zeros_back = zeros 252 2 8 o refl (omega arith)
+  zeros_back k h = rw k (zeros 252 2 8 o refl (omega arith) h)
 
-  pub zeros_finish : Finds (set_at o) 1 4 t → some_wrong 14 o ≡ t
+  pub zeros_finish : kind o ≡ 4 → Finds (set_at o) 1 4 t → some_wrong (zero_places (kind o)) o ≡ t
   unfolding all_below bit
-  zeros_finish = zeros 14 1 4 o refl (omega arith)
+  zeros_finish k h = rw k (zeros 14 1 4 o refl (omega arith) h)
 
 -- ---- causes in their order
 -- the bytes are looked at first
@@ -127,21 +127,21 @@ module _ (o : List ℕ) where
 
 -- ---- the refusal at a depth, by the kind
 module _ (b o : List ℕ) (d : ℕ) {r : ℕ} where
-  pub reads_narrow : kind o ≡ 1 → r ≡ first_cause ((refuse 25 if some_wrong 12 o) ∷ narrow_causes (book_of b) o) → RefusesAt b d o r
+  pub reads_narrow : kind o ≡ 1 → r ≡ refusal_with o (narrow_causes (book_of b) o) → RefusesAt b d o r
   unfolding refusal
-  reads_narrow k e s q L h = rw k e
+  reads_narrow k e s q L h = rw k (rw k at e)
 
-  pub reads_mark : kind o ≡ 2 → r ≡ first_cause ((refuse 25 if some_wrong 254 o) ∷ mark_causes d) → RefusesAt b d o r
+  pub reads_mark : kind o ≡ 2 → r ≡ refusal_with o (mark_causes d) → RefusesAt b d o r
   unfolding refusal
-  reads_mark k e s q L h = rw (k, ← h.deep, q) e
+  reads_mark k e s q L h = rw (k, ← h.deep, q) (rw k at e)
 
-  pub reads_back : kind o ≡ 3 → r ≡ first_cause ((refuse 25 if some_wrong 252 o) ∷ back_causes d o) → RefusesAt b d o r
+  pub reads_back : kind o ≡ 3 → r ≡ refusal_with o (back_causes d o) → RefusesAt b d o r
   unfolding refusal
-  reads_back k e s q L h = rw (k, ← h.deep, q) e
+  reads_back k e s q L h = rw (k, ← h.deep, q) (rw k at e)
 
-  pub reads_finish : kind o ≡ 4 → r ≡ first_cause ((refuse 25 if some_wrong 14 o) ∷ finish_causes o) → RefusesAt b d o r
+  pub reads_finish : kind o ≡ 4 → r ≡ refusal_with o (finish_causes o) → RefusesAt b d o r
   unfolding refusal
-  reads_finish k e s q L h = rw k e
+  reads_finish k e s q L h = rw k (rw k at e)
 
 pub reads_other : (b o : List ℕ) (d : ℕ) → (kind o ≡ 1 → ⊥) → (kind o ≡ 2 → ⊥) → (kind o ≡ 3 → ⊥) → (kind o ≡ 4 → ⊥) → RefusesAt b d o 20
 reads_other b o d k l m n s q L h = sym (refusal_other (book_of b) L o k l m n)

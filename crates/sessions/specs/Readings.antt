@@ -1,6 +1,6 @@
 -- What reading the bytes of an order gives: the order, or the number of its refusal.
-use Rattle.std.specs.Prelude.{◌≡◌, List, ℕ, Result, Ok, Err}
-use Rattle.model.specs.Orders.{argument, kind, mask, try_limit}
+use Rattle.std.specs.Prelude.{◌≡◌, List, ◌∷◌, ℕ, Result, Ok, Err}
+use Rattle.model.specs.Orders.{Cause, argument, first_cause, kind, mask, refuse◌if◌, some_wrong, try_limit, zero_places}
 use Rattle.sessions.specs.declared.orders.Order.{Order}
 use Rattle.sessions.specs.declared.orders.Order.TheVariants.{Back, Finish, Mark, Narrow}
 use Rattle.sessions.specs.declared.orders.Refused.{Refused}
@@ -27,3 +27,7 @@ order_is o (Narrow c m) = (kind o ≡ 1) × (c ≡ argument o) × (m ≡ mask o)
 order_is o Mark = kind o ≡ 2
 order_is o (Back m) = (kind o ≡ 3) × (m ≡ argument o)
 order_is o (Finish n) = (kind o ≡ 4) × (n ≡ try_limit o)
+
+-- the refusal of the order o, whose kind has these causes: that of its bytes comes before them
+abbrev pub refusal_with : List ℕ → List Cause → ℕ
+refusal_with o cs = first_cause ((refuse 25 if some_wrong (zero_places (kind o)) o) ∷ cs)

@@ -3,4 +3,4 @@ use Rattle.sessions.proofs.Holds.{open_holds}
 use Rattle.sessions.proofs.session.open.Goals as goal
 
 pub returns : goal.returns
-returns c = open_holds _ c.opening.ensures refl refl
+returns c = open_holds _ c.opening-now.ensures refl refl

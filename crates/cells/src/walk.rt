@@ -42,7 +42,7 @@ fn kept_set<S: Step>(book: &[u8], p: Counters, j: usize, m: u64, word: u64) -> u
     let mut keep: u64 = 0;
     for i in Places::of(word) {
         let at = S::on(p, i as usize).at + j;
-        let v = fields::wide32(book[at]) % 64;
+        let v = u32::from(book[at]) % 64;
         keep |= has(m, v) << i;
     }
     keep
@@ -151,7 +151,7 @@ pub fn kept_any(book: &[u8], begin: usize, w: usize, j: usize, word: u64) -> u64
 fn held(d: u32, cell: u8) -> bool
     ensures { result ≡ bit (cell % 32) d }
 {
-    has(d as u64, fields::wide32(cell) % 32) == 1
+    has(d as u64, u32::from(cell) % 32) == 1
 }
 
 // Whether every cell of the row at byte `at` is in the set of its place.
@@ -193,7 +193,7 @@ fn add_row(book: &[u8], at: usize, sets: &mut [u32; 4])
     ensures { RowAdded book.now at sets.old sets.new × SmallSets sets.new }
 {
     for j in 0..4 {
-        sets[j] |= only(fields::wide32(book[at + j]) % 32);
+        sets[j] |= only(u32::from(book[at + j]) % 32);
     }
 }
 

@@ -16,8 +16,8 @@ pub mod refused;
 pub mod rise;
 
 ghost use Rattle.std.specs.Prelude.{◌≡◌, IfErr, IfOk};
-ghost use Rattle.book.specs.Refusals.{verdict_of};
-ghost use Rattle.book.specs.Verdicts.{verdict};
+ghost use Rattle.book.specs.Refusals.{refusal_number, verdict_of};
+ghost use Rattle.book.specs.Verdicts.{check_result, verdict};
 
 use crate::fault::*;
 use crate::rise::*;
@@ -28,10 +28,11 @@ pub use refused::Refusal;
 use rows::row::*;
 
 // Checks a book: the lowest refusal that applies, with its place, or the book.
-#[tactic(auto, using(crate::proofs::Verdicts::verdict_length, crate::proofs::Verdicts::verdict_check, crate::proofs::Verdicts::verdict_field, crate::proofs::Verdicts::verdict_blocks, crate::proofs::Verdicts::verdict_fault, crate::proofs::Verdicts::verdict_order, crate::proofs::Verdicts::order_accepted, rows::proofs::Rows::right_length, rows::proofs::Rows::head_there, heads::proofs::Heads::sheets_most))]
+#[tactic(auto, using(crate::proofs::Verdicts::numbered, crate::proofs::Verdicts::verdict_length, crate::proofs::Verdicts::verdict_check, crate::proofs::Verdicts::verdict_field, crate::proofs::Verdicts::verdict_blocks, crate::proofs::Verdicts::verdict_fault, crate::proofs::Verdicts::verdict_order, crate::proofs::Verdicts::order_accepted, rows::proofs::Rows::right_length, rows::proofs::Rows::head_there, heads::proofs::Heads::sheets_most))]
 pub fn check<'a>(bytes: &'a [u8]) -> Result<Book<'a>, Refusal>
     ensures accepted { IfOk result (λ book. book.bytes.now ≡ bytes.now) }
     ensures refused { IfErr result (λ e. verdict bytes.now ≡ verdict_of e) }
+    ensures number { IfErr result (λ e. check_result bytes.now ≡ refusal_number e) }
 {
     if wrong_length(bytes) {
         return Err(Refusal::Length);

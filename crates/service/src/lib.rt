@@ -17,8 +17,8 @@ pub fn fitting_check(book: &[u8]) -> u64
     ensures { result ≡ check_result book.now }
 {
     match book::check(book) {
-        Ok(accepted) => accepted.number(),
-        Err(refusal) => refusal.number(),
+        Ok(book) => book.number(),
+        Err(refused) => refused.number(),
     }
 }
 

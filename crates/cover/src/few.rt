@@ -9,7 +9,8 @@ ghost use Rattle.cover.specs.Covers.{FewValues, SizesTo, plain_in};
 use heads::head::Head;
 use words::index::Rows;
 
-// How many values each domain has: counted for all columns at once, which is as quick as for four.
+// How many values each domain has: counted for all columns at once, which is as quick as for four. A loop, since `map` takes six times as long, and
+// what is known of `from_fn` does not give the sizes.
 pub fn count_values(dom: &[u32; 16]) -> [u32; 16]
     ensures { SizesTo dom.now 16 result }
 {
@@ -29,7 +30,7 @@ fn plain_choices(book: &[u8], s: usize, shorts: u32, sizes: &[u32; 16]) -> u32
     let mut n: u32 = 1;
     for j in 0..head.width(s) {
         if (shorts >> (8 * (j as u32) + 7)) % 2 == 0 {
-            n = n * sizes[head.column(s, j)];
+            n *= sizes[head.column(s, j)];
         }
     }
     n

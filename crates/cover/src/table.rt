@@ -42,7 +42,7 @@ fn put_row(book: &[u8], at: usize, table: &mut [u32; 1089])
     ensures { RowPut (byte_at book.now at) (byte_at book.now (at + 1)) (byte_at book.now (at + 2)) table.old table.new }
 {
     let i = 33 * slot_of(book[at + 2]) + slot_of(book[at + 1]);
-    table[i] = table[i] | matched_values(book[at]);
+    table[i] |= matched_values(book[at]);
 }
 
 // The rows that are set in `word`.

@@ -34,7 +34,7 @@ fn strike_to(sheet: &Sheet<'_>, y: &[u32; 4], dom: &mut [u32; 16]) -> u32
 {
     let mut lost: u32 = 0;
     for j in 0..sheet.width() {
-        lost = lost | struck(sheet, j, y[j], dom);
+        lost |= struck(sheet, j, y[j], dom);
     }
     lost
 }

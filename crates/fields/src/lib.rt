@@ -45,7 +45,7 @@ pub fn word_at(b: &[u8], i: usize) -> u32
     u32::from_le_bytes([b[i], b[i + 1], b[i + 2], b[i + 3]])
 }
 
-// ---- writing
+// ---- writing: each size is one line of the library's, so a function of the size would be no plainer
 
 // A number of 16 bits as two bytes, from byte i on.
 pub fn put_half(out: &mut [u8], i: usize, n: u32)

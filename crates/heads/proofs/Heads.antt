@@ -18,8 +18,8 @@ module _ (b : List ℕ) where
   field_gap i p q = rw (ne_eqb i 0 (λ e. omega arith), lt-ltb i 4 q)
 
   -- the letters are right: nothing is wrong before byte 4
-  pub right_letters : wrong_letters b ≡ false → NoneIn (wrong_field b) 0 4
-  right_letters e = none_join (none_more (none_empty (le_refl 0)) (field_letters ∙ e)) (record { at = field_gap })
+  pub right_letters : false ≡ wrong_letters b → NoneIn (wrong_field b) 0 4
+  right_letters e = none_join (none_more (none_empty (le_refl 0)) (field_letters ∙ sym e)) (record { at = field_gap })
 
   pub field_columns : wrong_field b 4 ≡ wrong_columns b
   unfolding wrong_field
@@ -97,14 +97,17 @@ module _ (b : List ℕ) where
     field_high = field_used (31 + 8 * s) 7 (omega arith) (omega arith)
 
     -- right field by field, so far
-    pub right_width : wrong_width b s ≡ false → NoneIn (wrong_field b) (24 + 8 * s) (25 + 8 * s)
-    right_width e = none_to (omega arith) (none_empty (le_refl _)) (field_width ∙ e)
+    pub right_width : false ≡ wrong_width b s → NoneIn (wrong_field b) (24 + 8 * s) (25 + 8 * s)
+    right_width e = none_to (omega arith) (none_empty (le_refl _)) (field_width ∙ sym e)
 
-    pub right_five : NoneIn (wrong_field b) (24 + 8 * s) (29 + 8 * s) → set_at b (29 + 8 * s) ≡ false → NoneIn (wrong_field b) (24 + 8 * s) (30 + 8 * s)
-    right_five h e = none_to (omega arith) h (field_five ∙ e)
+    pub right_columns : false ≡ wrong_width b s → NoneIn (wrong_field b) (25 + 8 * s) (29 + 8 * s) → NoneIn (wrong_field b) (24 + 8 * s) (29 + 8 * s)
+    right_columns e h = none_join (right_width e) h
 
-    pub right_rows : NoneIn (wrong_field b) (24 + 8 * s) (30 + 8 * s) → wrong_rows b s ≡ false → NoneIn (wrong_field b) (24 + 8 * s) (32 + 8 * s)
-    right_rows h e = none_to {i = 31 + 8 * s} (omega arith) (none_to (omega arith) h (field_rows ∙ e)) field_high
+    pub right_five : NoneIn (wrong_field b) (24 + 8 * s) (29 + 8 * s) → false ≡ set_at b (29 + 8 * s) → NoneIn (wrong_field b) (24 + 8 * s) (30 + 8 * s)
+    right_five h e = none_to (omega arith) h (field_five ∙ sym e)
+
+    pub right_rows : NoneIn (wrong_field b) (24 + 8 * s) (30 + 8 * s) → false ≡ wrong_rows b s → NoneIn (wrong_field b) (24 + 8 * s) (32 + 8 * s)
+    right_rows h e = none_to {i = 31 + 8 * s} (omega arith) (none_to (omega arith) h (field_rows ∙ sym e)) field_high
 
 -- "sheets S, 0 to 8"
 pub few_sheets : (b : List ℕ) → wrong_field b 5 ≡ false → sheets_of b ≤ 8

@@ -10,17 +10,17 @@ returns-then-wrong_letters c = let b = c.args.self.now.bytes.now in
 
 pub returns-then-wrong_columns : goal.returns-then-wrong_columns
 returns-then-wrong_columns c = let b = c.args.self.now.bytes.now in
-    first_of_found (search rules) (search rules) (right_letters b (sym c.if-wrong_letters.ensures)) (field_columns b ∙ sym c.if-wrong_columns.ensures)
+    first_of_found (search rules) (search rules) (right_letters b c.if-wrong_letters.ensures) (field_columns b ∙ sym c.if-wrong_columns.ensures)
 
 pub returns-then-wrong_sheets : goal.returns-then-wrong_sheets
 returns-then-wrong_sheets c = let b = c.args.self.now.bytes.now in
     first_of_found (search rules) (search rules)
-    (none_more (right_letters b (sym c.if-wrong_letters.ensures)) (field_columns b ∙ sym c.if-wrong_columns.ensures))
+    (none_more (right_letters b c.if-wrong_letters.ensures) (field_columns b ∙ sym c.if-wrong_columns.ensures))
     (field_sheets b ∙ sym c.if-wrong_sheets.ensures)
 
 pub returns : goal.returns
 returns c = let b = c.args.self.now.bytes.now in
     first_of_join 8 c.first_set.result (search rules)
-    (none_more (none_more (right_letters b (sym c.if-wrong_letters.ensures)) (field_columns b ∙ sym c.if-wrong_columns.ensures))
+    (none_more (none_more (right_letters b c.if-wrong_letters.ensures) (field_columns b ∙ sym c.if-wrong_columns.ensures))
     (field_sheets b ∙ sym c.if-wrong_sheets.ensures))
     (first_of_same c.first_set.result (λ i p q. sym (field_zero b i p q)) c.first_set.ensures)

@@ -1,6 +1,6 @@
 // How far the rows are beyond doubt: every byte is below its bound. Then nothing is wrong, and nothing is 255. From the first sheet in doubt on,
 // rows are looked at again, turned (wrong). So a right book without 255 is looked at once.
-ghost use Rattle.std.specs.Prelude.{◌<◌, ◌≤◌, MatchOption};
+ghost use Rattle.std.specs.Prelude.{◌<◌, MatchOption};
 ghost use Rattle.model.specs.Tests.{NoneIn};
 ghost use Rattle.heads.specs.Heads.{sheets_of, RightHead};
 ghost use Rattle.rows.specs.Rows.{blocks_of, wrong_block, wrong_sheet};

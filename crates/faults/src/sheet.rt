@@ -1,9 +1,9 @@
 // A sheet of a book whose blocks are looked at.
-ghost use Rattle.std.specs.Prelude.{◌≡◌, ◌+◌, ◌*◌, ◌<◌, ◌≤◌};
+ghost use Rattle.std.specs.Prelude.{◌≡◌, ◌+◌, ◌<◌};
 ghost use Rattle.heads.specs.Blocks.{block_at};
 ghost use Rattle.heads.specs.Heads.{rows_of, sheets_of};
 ghost use Rattle.rows.specs.Rows.{blocks_of, first_block};
-ghost use Rattle.rows.specs.Bounds.{SheetThere, used_rows};
+ghost use Rattle.rows.specs.Bounds.{SheetThere};
 
 use heads::block::Block;
 use heads::head::Head;
@@ -21,6 +21,7 @@ pub struct SheetBlocks<'a> {
 
 impl<'a> SheetBlocks<'a> {
     // Sheet s of the book.
+    #[tactic(auto, using(heads::proofs::Heads::sheets_most, rows::proofs::Rows::blocks_there))]
     pub fn of(book: &Whole<'a>, s: usize) -> SheetBlocks<'a>
         requires { s < sheets_of book.now.bytes.now }
         ensures { (result.book.now ≡ book.now.bytes.now) × (result.number ≡ s) }

@@ -21,6 +21,7 @@ fn any_wrong(b: &Block<'_>, m: Bounds, n: usize) -> bool
 }
 
 // Whether block q of a sheet has a byte that is wrong by these bounds.
+#[tactic(auto, using(rows::proofs::Bounds::block_over))]
 fn over_block(sheet: &SheetBlocks<'_>, m: Bounds, q: usize) -> bool
     requires { q < blocks_of sheet.now.book.now sheet.now.number }
     ensures { result ≡ over_block sheet.now.book.now sheet.now.number m.w m.x m.y m.z m.k q }
@@ -46,14 +47,16 @@ pub fn first_in_sheet(sheet: &SheetBlocks<'_>) -> Option<usize>
 // ---- the first wrong byte of a block
 
 // Whether byte i of a block is wrong; its first n rows are used.
+#[tactic(auto, using(rows::proofs::Bounds::in_used, rows::proofs::Bounds::past_used))]
 fn wrong_in(b: &Block<'_>, m: Bounds, n: usize, i: usize) -> bool
     requires { (n ≤ 127) × (i < 508) }
     ensures { result ≡ wrong_in m.w m.x m.y m.z m.k b.now.bytes.now (4 * n) i }
 {
     if i < 4 * n {
-        return m.over_bound(i % 4, b.bytes[i]);
+        m.over_bound(i % 4, b.bytes[i])
+    } else {
+        set_at(b.bytes, i)
     }
-    set_at(b.bytes, i)
 }
 
 // The first wrong byte of a block. Used rows are passed over as long as none of their bytes is wrong.

@@ -1,5 +1,5 @@
 -- Laws of a look at a block: what is found in its rows beside the bounds of their bytes. Assumes nothing.
-use Rattle.std.proofs.Common.{◌≡◌, ℕ, zero, suc, ◌+◌, ◌-◌, ◌*◌, ◌/◌, ◌%◌, ◌^◌, ◌<◌, ◌≤◌, Bool, true, false, ◌||◌, ltb, leb, ◌⊎◌, List, Option, None, Some, unwrap_or, length, sym, refl, ap, ◌∙◌, inl, inr, le_refl, add-zero, mod-lt, add-one, arith, ltb-false, ltb-true, le-ltb, lt-ltb, eqb-true, le-leb, leb-false}
+use Rattle.std.proofs.Common.{◌≡◌, ℕ, zero, suc, ◌+◌, ◌-◌, ◌*◌, ◌/◌, ◌%◌, ◌^◌, ◌<◌, ◌≤◌, Bool, true, false, ◌||◌, ltb, leb, ◌⊎◌, List, Option, None, Some, unwrap_or, length, sym, refl, ap, ◌∙◌, inl, inr, le_refl, add-zero, mod-lt, arith, ltb-false, ltb-true, le-ltb, lt-ltb, eqb-true, le-leb, leb-false}
 use mathlib.Core.Bool.{false≢true}
 use lib.Bits.{bit_or, or_block}
 use borrow.Author.Tests.{lt-leb, not-false}
@@ -7,7 +7,7 @@ use Rattle.fields.specs.Bytes.{byte_at}
 use Rattle.model.specs.Books.{is_any}
 use Rattle.model.specs.Masks.{bit}
 use Rattle.model.specs.Tests.{Finds, FirstIn, FirstOf, NoneIn, any_below, one_if}
-use Rattle.model.proofs.Firsts.{any_none, finds_empty, finds_more, finds_same, finds_any, finds_fours, first_in_same, first_of_same, none_any}
+use Rattle.model.proofs.Firsts.{any_none, finds_same, finds_any, finds_fours, first_in_same, first_of_same, none_any}
 use Rattle.model.proofs.Tests.{and_true, any_below_e, below, either, or_false_l, or_false_r}
 use Rattle.heads.specs.Blocks.{word, block_at}
 use Rattle.rows.specs.Bounds.{any_high, below_bounds, joined, over_bounds, raised_row, slack_of, turn_of, turned, turned_row, BoundedSheet, RowBounds, SheetThere, over_block, SmallBounds, fourth, place_bound, used_rows, wrong_in}
@@ -296,10 +296,10 @@ module _ (b : List ℕ) (s q : ℕ) (there : 512 * (first_block b s + q) + 512 �
   unfolding wrong_block
   block_same = sym (finds_any (any_below 508 seen_wrong) (finds_same (λ i l p. same_byte i p) (any_finds 508 seen_wrong)))
 
--- a block of a sheet has a used row
-pub row_of_block : (b : List ℕ) (s q : ℕ) → q < blocks_of b s → 127 * q < rows_of b s
+-- a block of a sheet has a used row, n the sheet's rows
+pub row_of_block : (b : List ℕ) (s q n : ℕ) → n ≡ rows_of b s → q < blocks_of b s → 127 * q < n
 unfolding blocks_of
-row_of_block b s q p = omega arith
+row_of_block b s q n e p = omega arith
 
 -- a look at block q by any bounds, from what the code holds: where its sheet begins, the block's bytes, the sheet's rows and the used ones of the block
 pub block_over : (b block : List ℕ) (s q start w x y z k n used : ℕ) (r : Bool)

@@ -4,7 +4,7 @@
 // be below, and at how many of them 255 passes; `any_not_below`, `any_over` and `rows_under` say of a block whether a row of it is over such bounds, and how
 // many from its first on are not (`over_bounds`, specs/Bounds.antt). Where the first fault is, and its refusal, is for crates faults and book.
 //
-//   row      the sheets' blocks: how many; the bounds of a row; rows over their bounds
+//   row      the sheets' blocks: how many, and a book that has them; the bounds of a row; rows over their bounds
 #![tactic(auto)]
 
 pub mod row;

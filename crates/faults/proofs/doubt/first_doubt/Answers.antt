@@ -1,4 +1,4 @@
-use Rattle.std.proofs.Common.{◌≡◌, ℕ, true, false, rules, tests}
+use Rattle.std.proofs.Common.{◌≡◌, false, rules, tests}
 use Rattle.std.proofs.lemmas.Iterator.{first_from_Range}
 use Rattle.rows.specs.Rows.{wrong_sheet}
 use Rattle.faults.proofs.Doubts.{sheets_before, sheet_clear}

@@ -27,5 +27,5 @@ loop-r-preserved c = let sheet = c.args.sheet.now in (
   rw c.ends-more.ensures (next_row _ _ c.loop-r.invariant.1),
   rw (c.string_at-x.ensures, c.loop-r.invariant.0) (before_next sheet.book.now sheet.number c.loop-r.r),
   none_more c.loop-r.invariant.3
-  (falls_test sheet.book.now sheet.number c.loop-r.r _ _ _ _ c.loop-r.invariant.0 c.loop-r.invariant.2 c.string_at-x.ensures c.is_some_and.ensures (λ p e. search (rules, tests)) ∙ c.if-is_some_and.false),
+      (falls_test sheet.book.now sheet.number c.loop-r.r _ _ _ _ c.loop-r.invariant.0 c.loop-r.invariant.2 c.string_at-x.ensures c.is_some_and.ensures (λ p e. search (rules, tests)) ∙ c.if-is_some_and.false),
 )

@@ -1,12 +1,13 @@
-use Rattle.std.proofs.Common.{sym, ◌∙◌, refl}
+use Rattle.std.proofs.Common.{sym, ◌∙◌}
 use mathlib.Core.Bool.{false≢true}
 use Rattle.rows.proofs.Bounds.{high_found, joined_below, raised_found}
 use Rattle.rows.proofs.row.any_not_below.Goals as goal
 
-pub returns-then-all_above : goal.returns-then-all_above
-returns-then-all_above c = let m = c.args.m in
-    let below = rw c.joined_rows-v.ensures at (sym c.all_above.ensures ∙ c.if-all_above.true) in
-    record { none = λ p. joined_below c.args.b.now.bytes.now c.are_bytes.ensures m.w m.x m.y m.z 0 127 below; some = λ p. absurd (false≢true p) }
+pub returns-else-not-below_bounds : goal.returns-else-not-below_bounds
+returns-else-not-below_bounds c = let m = c.args.m in
+    let below = rw c.joined_rows-v.ensures at (sym c.below_bounds.ensures ∙ c.if-not-below_bounds.false) in
+    rw c.if-not-below_bounds.false
+    (record { none = λ p. joined_below c.args.b.now.bytes.now c.are_bytes.ensures m.w m.x m.y m.z 0 127 below; some = λ p. absurd (false≢true p) })
 
 pub returns-then-any_high : goal.returns-then-any_high
 returns-then-any_high c = let m = c.args.m in

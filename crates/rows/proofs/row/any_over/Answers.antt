@@ -1,5 +1,4 @@
 use Rattle.rows.proofs.Bounds.{turned_found}
-use Rattle.rows.proofs.Words.{turn_small}
 use Rattle.rows.proofs.row.any_over.Goals as goal
 
 pub returns : goal.returns

@@ -232,7 +232,7 @@ right_formed b h = record {
 
 -- its number by its head
 pub accepted_figure : (b : List ℕ) → Accepted b → check_result b ≡ columns_of b * 16 + sheets_of b
-accepted_figure b a = let h = accepted_right b a in numbered b (verdict_order b h.length_right h.checks h.head h.blocks h.rows ∙ fall_none b h.order)
+accepted_figure b a = let h = accepted_right b a in numbered b (verdict_order b h.length_right h.checks h.head h.blocks h.rows (fall_none b h.order))
 
 -- the statement of specs/Decoding.antt
 pub accepted_well_formed : AcceptedWellFormed

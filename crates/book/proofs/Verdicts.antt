@@ -3,7 +3,7 @@ use mathlib.Core.Path.{◌≡◌, ap, ◌∙◌}
 use mathlib.Core.Bool.{true, false}
 use mathlib.Core.Logic.{◌⊎◌, inl, inr}
 use mathlib.Core.List.{List}
-use Prim.Native.Nat.{ℕ, ◌+◌, ◌*◌, ◌≤◌, ◌<◌}
+use Prim.Native.Nat.{ℕ, ◌*◌, ◌≤◌, ◌<◌}
 use native.Mathlib.Omega.{arith}
 use lib.Dec.{eqb, ltb}
 use borrow.Author.Tests.{eqb-false, eqb-true, lt-ltb, le-ltb, eq-eqb, ne_eqb}
@@ -55,11 +55,14 @@ module _ (b : List ℕ) where
           unfolding verdict
           verdict_rows = rw (h1, checks, fields, eq-eqb _ _ h4)
 
-          pub verdict_order : first_fault b ≡ clean → verdict b ≡ order_verdict b
-          verdict_order h5 = verdict_rows ∙ rw h5
+          pub verdict_fault : {v : Verdict} → row_verdict b (first_fault b) ≡ v → verdict b ≡ v
+          verdict_fault e = verdict_rows ∙ e
+
+          pub verdict_order : first_fault b ≡ clean → {v : Verdict} → order_verdict b ≡ v → verdict b ≡ v
+          verdict_order h5 e = verdict_rows ∙ rw h5 e
 
           pub order_accepted : first_fault b ≡ clean → order_verdict b ≡ accepted (columns_of b) (sheets_of b) → Accepted b
-          order_accepted h5 h6 = omega (arith, numbered b (verdict_order h5 ∙ h6), (columns_range b h3).1, sheets_most b h3)
+          order_accepted h5 h6 = omega (arith, numbered b (verdict_order h5 h6), (columns_range b h3).1, sheets_most b h3)
 
 -- ---- a number that is none of refusals 1 to 4: all but the rows is right, and it goes by them
 module _ (b : List ℕ) (later : (check_result b < 65536) ⊎ (5 * 65536 ≤ check_result b)) where

@@ -13,6 +13,7 @@ pub struct Book<'a> {
 
 impl<'a> Book<'a> {
     // Its head.
+    #[tactic(auto, using(crate::proofs::Verdicts::later_length, rows::proofs::Rows::head_there))]
     pub fn head(&self) -> Head<'a>
         ensures { result.bytes.now ≡ self.now.bytes.now }
     {
@@ -20,6 +21,7 @@ impl<'a> Book<'a> {
     }
 
     // The accepted figure, C × 16 + S.
+    #[tactic(auto, using(crate::proofs::Decoding::accepted_figure))]
     pub fn number(&self) -> u64
         ensures { result ≡ check_result self.now.bytes.now }
     {

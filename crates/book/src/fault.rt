@@ -15,6 +15,7 @@ use heads::head::*;
 use rows::row::*;
 
 // Whether byte j of row r of sheet s is a value.
+#[tactic(auto, unfolding(rows::specs::Rows::is_value))]
 fn is_value(head: &Head<'_>, s: usize, r: usize, j: usize) -> bool
     requires { s < 8 }
     ensures { result ≡ is_value head.now.bytes.now s r j }
@@ -23,6 +24,7 @@ fn is_value(head: &Head<'_>, s: usize, r: usize, j: usize) -> bool
 }
 
 // The refusal for byte i of block q of a sheet, which is wrong.
+#[tactic(auto, using(crate::proofs::Refusals::value_at, crate::proofs::Refusals::filler_at))]
 fn fault_at(sheet: &SheetBlocks<'_>, q: usize, i: usize) -> Refusal
     requires { (sheet.now.start + q ≤ 33) × (i ≤ 508) }
     ensures { row_verdict sheet.now.book.now (fault_at sheet.now.book.now sheet.now.number q i) ≡ verdict_of result }
@@ -48,6 +50,7 @@ fn first_in_block(sheet: &SheetBlocks<'_>, q: usize) -> Option<usize>
 }
 
 // The refusal for the first fault of sheet s.
+#[tactic(auto, using(crate::proofs::Refusals::byte_found, rows::proofs::Rows::blocks_few, model::proofs::Firsts::none_any), unfolding(rows::specs::Rows::wrong_sheet))]
 fn check_sheet(book: &Whole<'_>, s: usize) -> Result<(), Refusal>
     requires { s < sheets_of book.now.bytes.now }
     ensures right { OnOk result (wrong_sheet book.now.bytes.now s ≡ false) }
@@ -64,6 +67,7 @@ fn check_sheet(book: &Whole<'_>, s: usize) -> Result<(), Refusal>
 }
 
 // Refusal 5 or 6 for the first fault of the rows. A right book without 255 is done where no sheet is in doubt.
+#[tactic(auto, using(crate::proofs::Refusals::sheet_first, rows::proofs::Rows::fault_none))]
 pub fn check_faults(book: &Whole<'_>) -> Result<(), Refusal>
     ensures right { OnOk result (first_fault book.now.bytes.now ≡ clean) }
     ensures wrong { IfErr result (λ e. row_verdict book.now.bytes.now (first_fault book.now.bytes.now) ≡ verdict_of e) }

@@ -20,6 +20,7 @@ fn fall_at(start: usize, r: usize) -> Refusal
 }
 
 // The refusal for the first row of sheet s that does not rise: a sheet that allows its rows has none.
+#[tactic(auto, using(crate::proofs::Refusals::sheet_plain, crate::proofs::Refusals::sheet_rises, crate::proofs::Refusals::sheet_falls, crate::proofs::Refusals::fall_stands, rows::proofs::Rows::blocks_few, heads::proofs::Heads::rows_most, heads::proofs::Heads::sheets_most))]
 fn check_sheet(book: &Whole<'_>, s: usize) -> Result<(), Refusal>
     requires { s < sheets_of book.now.bytes.now }
     ensures right { OnOk result (falls_in book.now.bytes.now s ≡ false) }
@@ -36,6 +37,7 @@ fn check_sheet(book: &Whole<'_>, s: usize) -> Result<(), Refusal>
 }
 
 // Refusal 7 for the first row that does not rise.
+#[tactic(auto, using(crate::proofs::Refusals::fall_found, crate::proofs::Refusals::fall_none))]
 pub fn check_falls(book: &Whole<'_>) -> Result<(), Refusal>
     ensures right { OnOk result (order_verdict book.now.bytes.now ≡ accepted (columns_of book.now.bytes.now) (sheets_of book.now.bytes.now)) }
     ensures wrong { IfErr result (λ e. order_verdict book.now.bytes.now ≡ verdict_of e) }

@@ -15,7 +15,7 @@ use counters::counter::*;
 use counters::step::*;
 
 // The place of 255: 255 % 64.
-const ANY: u64 = 9223372036854775808;
+const ANY: u64 = 1 << 63;
 
 // ---- pass 1: the rows whose cell at a place is in d
 //
@@ -42,7 +42,7 @@ fn kept_set<S: Step>(book: &[u8], p: Counters, j: usize, m: u64, word: u64) -> u
     let mut keep: u64 = 0;
     for i in Places::of(word) {
         let at = S::on(p, i as usize).at + j;
-        let v = fields::wide32(book[at]) % 64;
+        let v = u32::from(book[at]) % 64;
         keep |= has(m, v) << i;
     }
     keep
@@ -63,7 +63,7 @@ fn row_from(book: &[u8], at: usize, j: u32) -> u32
     requires { RowThere book.now at × (j < 4) }
     ensures { result % 64 ≡ byte_at book.now (at + j) % 64 }
 {
-    fields::word_of(book[at], book[at + 1], book[at + 2], book[at + 3]) >> (8 * j)
+    fields::word_at(book, at) >> (8 * j)
 }
 
 // Row k added to `keep`, where v is in d.
@@ -78,6 +78,7 @@ fn with_place(keep: u32, k: u32, d: u32, v: u32) -> u32
 }
 
 // The n rows from row `from` on, set or not. No row waits for the one before, and each is read as one number: so the compiler looks at four at a time.
+// The halves of the places come apart: with m in their place, tried, the walk over all rows takes 1.6 times as long.
 fn kept_run(book: &[u8], p: Counters, from: usize, n: u32, j: u32, low: u32, high: u32) -> u32
     requires { (j < 4) × (n ≤ 32) × (from + n ≤ 60) × Stretch same_block book.now p (2 ^ 60 - 1) }
     ensures { KeptRun book.now p.begin (64 * p.word + from) n j (low + 2 ^ 32 * high) result }
@@ -150,7 +151,7 @@ pub fn kept_any(book: &[u8], begin: usize, w: usize, j: usize, word: u64) -> u64
 fn held(d: u32, cell: u8) -> bool
     ensures { result ≡ bit (cell % 32) d }
 {
-    has(d as u64, fields::wide32(cell) % 32) == 1
+    has(d as u64, u32::from(cell) % 32) == 1
 }
 
 // Whether every cell of the row at byte `at` is in the set of its place.
@@ -192,7 +193,7 @@ fn add_row(book: &[u8], at: usize, sets: &mut [u32; 4])
     ensures { RowAdded book.now at sets.old sets.new × SmallSets sets.new }
 {
     for j in 0..4 {
-        sets[j] |= only(fields::wide32(book[at + j]) % 32);
+        sets[j] |= only(u32::from(book[at + j]) % 32);
     }
 }
 

@@ -29,8 +29,8 @@ impl Counters {
     {
         let block = w / 2;
         Counters {
-            begin: begin,
-            block: block,
+            begin,
+            block,
             row: block + 64 * (w % 2),
             word: w,
             bit: 0,

@@ -8,7 +8,7 @@ use native.Mathlib.Nat.{lt_of_le_of_lt}
 use native.Mathlib.Omega.{arith}
 use lib.Bits.{and_le_l, bit_and, or_lt}
 use lib.Dec.{ltb}
-use lib.ListN.{get_or, length-replicate, replicate}
+use lib.ListN.{get_or, replicate}
 use borrow.Author.Tests.{eq-eqb, lt-ltb, ltb-true, not-true}
 use Rattle.model.specs.Books.{matches}
 use Rattle.model.specs.Masks.{Cleared, bit}
@@ -16,7 +16,7 @@ use Rattle.model.proofs.Masks.{bit-and, bit_below, bit_of_zero, bit-or, ones32, 
 use Rattle.model.proofs.Tests.{and_i, and_l, and_r, or_e, or_l, or_r, positive, zeros_at}
 use Rattle.cells.specs.Cells.{SmallSets, four_of}
 use Rattle.counters.proofs.Ones.{complement}
-use Rattle.cells.proofs.Walks.{Part, four_all, part_cleared, split, whole}
+use Rattle.cells.proofs.Walks.{Part, four_all, part_cleared, split}
 use Rattle.words.specs.Sheets.{AtSheet, SheetWords, is_set, value_at}
 use Rattle.words.proofs.Gathers.{nothing_outside, set_cell}
 use Rattle.cover.specs.Covers.{AllMatched, ChosenFrom, IsTable, MatchedBy, TableOf, TellsAllowed, TellsMatched, allowed_with, entry_at, set_with, slot}
@@ -29,9 +29,6 @@ pub record Tried (Passes : ℕ → Type 0) (all left : ℕ) : Type 0 where
   pub each : (v : ℕ) → bit v all ≡ true → bit v left ≡ false → Passes v
 
 module _ {Passes : ℕ → Type 0} {all : ℕ} where
-  pub tried_start : {left : ℕ} → left ≡ all → Tried Passes all left
-  tried_start {left} e = record { part = rw e (whole all); each = λ v p q. absurd (true≢false (sym p ∙ ap (bit v) (sym e) ∙ q)) }
-
   pub tried_turn : {left rest t : ℕ} → Tried Passes all left → Cleared left rest t → Passes t → Tried Passes all rest
   tried_turn {left} {rest} {t} h c p = record {
     part = part_cleared c h.part;

@@ -9,12 +9,12 @@ use native.Mathlib.Numerals.{add-one}
 use native.Mathlib.Omega.{arith}
 use lib.Seq.{get_or-set_other, get_or-set_same}
 use lib.Count.{ones, count_trailing_zeros}
-use lib.ListN.{get_or, length, length-replicate, length-set, replicate, set}
+use lib.ListN.{get_or, length, length-set, set}
 use Rattle.model.specs.Books.{is_any}
 use Rattle.model.specs.Choices.{Takes, space}
 use Rattle.model.specs.Masks.{bit, size}
 use Rattle.model.specs.States.{of_sheet}
-use Rattle.model.specs.Stores.{IsStore, has}
+use Rattle.model.specs.Stores.{has}
 use Rattle.model.specs.Tests.{count, sum, tab}
 use Rattle.model.proofs.Books.{matches_plain}
 use Rattle.model.proofs.Masks.{bit_of_zero, bit_pow_only, cleared}
@@ -49,8 +49,21 @@ module _ (shorts : ℕ) (x : List ℕ) where
       rw (free_size 0, free_size 1, free_size 2, free_size 3, one-mul, mul-one, mul_assoc (n 0 * n 1) (n 2) (n 3), mul_assoc (n 0) (n 1) (n 2 * n 3))
 
 -- ---- the choices, as the code counts them
+pub sizes_more : {D Z : List ℕ} {n : ℕ} → get_or D n 0 < 2 ^ 32 → n < 16 → SizesTo D n Z → SizesTo D (n + 1) (set Z n (ones (get_or D n 0)))
+sizes_more {D} {Z} {n} d l h = record { all = length-set Z n _ ∙ h.all; at = λ c p. go c (below c n) p }
+  where
+    go : (c : ℕ) → (c < n) ⊎ (n ≤ c) → c < n + 1 → get_or (set Z n (ones (get_or D n 0))) c 0 ≡ size (get_or D c 0)
+    go c (inl q) p = get_or-set_other Z n c (ones (get_or D n 0)) 0 (λ e. omega arith) ∙ h.at c q
+    go c (inr q) p =
+        let e : c ≡ n = omega arith in
+        rw (e, get_or-set_same Z n (ones (get_or D n 0)) 0 (omega (arith, h.all))) (sym (count_ones 32 (get_or D n 0) d))
+
 pub sizes_few : {D Z : List ℕ} → SizesTo D 16 Z → FewValues Z
 sizes_few {D} h = record { all = h.all; most = λ c l. rw (h.at c l) (count_most 32 (λ v. bit v (get_or D c 0))) }
+
+-- a place below the width, as the code reads it of the book's head
+pub in_width : {b head : List ℕ} (s : ℕ) {k j : ℕ} → head ≡ b → k ≡ width_of head s → j < k → j < width_of b s
+in_width s e w l = rw (← e, ← w) l
 
 module _ {b : List ℕ} {begin s : ℕ} (a : AtSheet b begin s) (shorts : ℕ) (Z : List ℕ) where
   -- one place more

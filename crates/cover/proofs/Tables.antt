@@ -26,7 +26,7 @@ use Rattle.cells.proofs.Walks.{Part, part_cleared, split}
 use Rattle.words.specs.Sheets.{AtSheet, SheetWords, is_set, value_at}
 use Rattle.words.proofs.Gathers.{at_position, word_row}
 use Rattle.words.proofs.Indexes.{set_below}
-use Rattle.cover.specs.Covers.{IsTable, MatchedValues, RowAt, RowPut, TableOf, Tabled, entry_at, set_with, slot}
+use Rattle.cover.specs.Covers.{IsTable, MatchedValues, RowPut, TableOf, Tabled, entry_at, set_with, slot}
 
 -- ---- slots
 pub slot_value : (x : ℕ) → x < 32 → slot x ≡ x
@@ -161,11 +161,8 @@ tabled_same {cell} {passes} {all} {T} {U} e p = record {
     go i a (inl x) = inl x
     go i a (inr (k, x, y, z)) = inr (k, sym (e k) ∙ x, y, z)
 
--- the row that a walk comes to, at the byte that was found: it can be put in, and is one row more
+-- the row that a walk comes to, at the byte that was found, is one row more
 module _ (b : List ℕ) (begin from k : ℕ) {at : ℕ} (e : at ≡ cell_place begin (from + k) 0) where
-  pub row_there : {word : ℕ} → Readable b begin from word → bit k word ≡ true → RowAt b at
-  row_there h m = let first = ap (byte_at b) e in record { there = omega (arith, e, h.there k m); first = rw first (h.cell k 0 m (omega arith)) }
-
   pub row_tabled : {word left rest : ℕ} {T U Y : List ℕ} → Part left word → Cleared left rest k → Tabled (λ i j. cell_at b begin (from + i) j) (passed word left) T U
       → RowPut (byte_at b at) (byte_at b (at + 1)) (byte_at b (at + 2)) U Y → Tabled (λ i j. cell_at b begin (from + i) j) (passed word rest) T Y × Part rest word
   row_tabled p c t q =

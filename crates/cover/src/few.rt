@@ -13,7 +13,11 @@ use words::index::Rows;
 pub fn count_values(dom: &[u32; 16]) -> [u32; 16]
     ensures { SizesTo dom.now 16 result }
 {
-    dom.map(|d| d.count_ones())
+    let mut sizes = [0u32; 16];
+    for c in 0..16 {
+        sizes[c] = dom[c].count_ones();
+    }
+    sizes
 }
 
 // How many choices the places of sheet s have where it has no 255. `shorts` has bit 8 j + 7 set for a place j at which it has one.

@@ -3,31 +3,10 @@
 // Promise: each function reads or writes what its definition says (specs/Bytes.antt), whatever the list.
 #![tactic(auto)]
 
-ghost use Rattle.std.specs.Prelude.{◌≡◌, ◌+◌, ◌*◌, ◌<◌, ◌≤◌, length};
+ghost use Rattle.std.specs.Prelude.{◌≡◌, ◌+◌, ◌<◌, ◌≤◌, length};
 ghost use Rattle.fields.specs.Bytes.{half_at, half_bytes, over, word_at, word_bytes};
 
 // ---- reading
-
-// A byte as an index.
-pub fn wide(x: u8) -> usize
-    ensures { (result ≡ x) × (result < 256) }
-{
-    usize::from(x)
-}
-
-// A byte as a 32-bit number.
-pub fn wide32(x: u8) -> u32
-    ensures { result ≡ x }
-{
-    u32::from(x)
-}
-
-// Four bytes as one number.
-pub fn word_of(a: u8, b: u8, c: u8, d: u8) -> u32
-    ensures { result ≡ a + b * 256 + c * 65536 + d * 16777216 }
-{
-    u32::from_le_bytes([a, b, c, d])
-}
 
 // The number in bytes i and i + 1.
 pub fn half_at(b: &[u8], i: usize) -> usize

@@ -9,10 +9,10 @@ use native.Mathlib.Nat.{mul_assoc, mul-one}
 use native.Mathlib.Numerals.{add-one}
 use native.Mathlib.Omega.{arith}
 use lib.Bits.{bit_or}
-use lib.Count.{ones, ones-le}
+use lib.Count.{ones}
 use lib.Dec.{eqb, ltb}
-use lib.ListN.{get_or-eq_default, get_or, length, length-replicate, length-set, replicate, set}
-use lib.Seq.{ext_get_or, get_or-set_other, get_or-set_same}
+use lib.ListN.{get_or-eq_default, get_or, length, length-replicate, replicate}
+use lib.Seq.{ext_get_or}
 use borrow.Author.Tests.{eq-eqb, eqb-false, eqb-true, lt-ltb, ne_eqb, not-true}
 use Rattle.model.specs.Books.{Sheet, sheet_at, supported_in}
 use Rattle.model.specs.Choices.{pick, space, space_but}

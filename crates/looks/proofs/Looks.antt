@@ -92,7 +92,7 @@ module _ {b : List ℕ} {begin s : ℕ} (a : AtSheet b begin s) where
   }
 
   -- ---- after pass 1 the rows that are set are the valid ones
-  pub cut_known : (changed : ℕ) (D : List ℕ) {W X N W' X' N' : List ℕ} → RowsKnown b s changed D W X N
+  cut_known : (changed : ℕ) (D : List ℕ) {W X N W' X' N' : List ℕ} → RowsKnown b s changed D W X N
       → CutBy (passes_below b s changed D (width_of b s)) s W X N W' X' N' → RowsKnown b s 0 D W' X' N'
   unfolding passes_below passes_at
   cut_known changed D {W} {X} {N} {W'} h c = record {
@@ -112,6 +112,11 @@ module _ {b : List ℕ} {begin s : ℕ} (a : AtSheet b begin s) where
           let p : (not (bit (column_of b s j) changed) || in_domain (value_at b s r j) (get_or D (column_of b s j) 0)) ≡ true
           = all_below_e (width_of b s) (λ j. passes_at b s changed D j r) (and_r (is_set W s r) _ e) j m in
           rw f at p
+
+  -- the same from what the engine knows
+  pub cut_rows : {changed : ℕ} {opening : Bool} {D W X N W' X' N' : List ℕ} → SheetKnown b s changed opening D W X N → Sized W X N
+      → CutBy (passes_below b s changed D (width_of b s)) s W X N W' X' N' → RowsKnown b s 0 D W' X' N'
+  cut_rows k z = cut_known _ _ (rows_known k z)
 
   -- ---- columns are struck, whatever the kind of the sheet
   module _ {D E : List ℕ} {lost : ℕ} (d : IsStore 16 D) (p : Struck b s D E lost) where

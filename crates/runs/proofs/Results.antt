@@ -1,5 +1,5 @@
 -- Laws of the number and the space of a run. Assumes nothing.
-use mathlib.Core.Path.{◌∙◌, ◌≡◌, refl, sym}
+use mathlib.Core.Path.{◌∙◌, ◌≡◌, ap, refl, sym}
 use mathlib.Core.Bool.{Bool, false, true}
 use mathlib.Core.Logic.{◌⊎◌, inl, inr}
 use mathlib.Core.List.{List, []}
@@ -11,9 +11,15 @@ use borrow.Author.Tests.{eqb-false, eqb-true, le-leb, le-ltb, leb-false, leb-tru
 use Rattle.model.specs.Answers.{accepted_count, answers}
 use Rattle.model.proofs.Tests.{either, length-tab, or_false_l, or_false_r}
 use Rattle.book.specs.Decoding.{book_of}
-use Rattle.book.specs.Verdicts.{check_result}
+use Rattle.book.specs.Refusals.{refusal_number}
+use Rattle.book.specs.Verdicts.{Accepted, check_result, refused}
+use Rattle.book.specs.declared.refused.Refusal.{Refusal}
+use Rattle.book.specs.declared.refused.Refusal.TheVariants.{Blocks, Check, Field, Filler, Length, Order, Value}
 use Rattle.sessions.specs.Lists.{order_at, orders_of}
-use Rattle.runs.specs.Results.{RightInput, run_refusal, run_result, run_space, space_needed, wrong_list}
+use Rattle.runs.specs.Results.{RightInput, run_number, run_refusal, run_refusal_number, run_result, run_space, space_needed, wrong_list}
+use Rattle.runs.specs.declared.run.RunRefusal.{RunRefusal}
+use Rattle.runs.specs.declared.run.RunRefusal.TheVariants as refusal
+use Rattle.std.specs.Prelude.{Err, IsErrAnd, Ok, Result}
 use Rattle.answers.specs.Spaces.{written}
 use Rattle.runs.proofs.Runs.{accepted_few}
 
@@ -24,6 +30,21 @@ whole_list o e = eqb-true (length o % 8) 0 (not-false _ (or_false_r (ltb 2048 (l
 pub right_list : (o : List ℕ) → wrong_list o ≡ false → length o ≤ 2048
 unfolding wrong_list
 right_list o e = ltb-false 2048 (length o) (or_false_l (ltb 2048 (length o)) _ e)
+
+-- the number of a refusal, 65,536 or more
+refusal_above : (e : Refusal) → 65536 ≤ refusal_number e
+refusal_above Length = omega arith
+refusal_above (Check n) = omega arith
+refusal_above (Field n) = omega arith
+refusal_above (Blocks n) = omega arith
+refusal_above (Value n) = omega arith
+refusal_above (Filler n) = omega arith
+refusal_above (Order n) = omega arith
+
+-- what the code returns for a book that is refused
+pub book_number : (r : Result ℕ RunRefusal) (e : Refusal) → IsErrAnd r (λ s. s ≡ refusal.Book e) → run_number r ≡ refusal_number e
+book_number (Ok n) e h = absurd h
+book_number (Err s) e h = ap run_refusal_number h
 
 -- ---- the number and the space
 module _ (b o : List ℕ) (room : ℕ) where
@@ -97,27 +118,27 @@ module _ (b o space : List ℕ) where
   space_refused n = rw (ne_eqb (run_refusal b o (length space)) 0 n)
 
   -- ---- each refusal, as the code gives it
-  module _ {v : ℕ} (e : v ≡ check_result b) where
-    -- the number is a refusal, so nothing is written
-    refuses_with : {r : ℕ} → run_refusal b o (length space) ≡ r → (r ≡ 0 → ⊥) → (r ≡ run_result b o (length space)) × (space ≡ run_space b o space)
-    refuses_with {r} q n =
-        let z : run_refusal b o (length space) ≡ 0 → ⊥ = λ y. n (sym q ∙ y) in
-        (sym (result_refused b o (length space) z ∙ q), sym (space_refused z))
+  -- the number is a refusal, so nothing is written
+  refuses_with : {r : ℕ} → run_refusal b o (length space) ≡ r → (r ≡ 0 → ⊥) → (r ≡ run_result b o (length space)) × (space ≡ run_space b o space)
+  refuses_with {r} q n =
+      let z : run_refusal b o (length space) ≡ 0 → ⊥ = λ y. n (sym q ∙ y) in
+      (sym (result_refused b o (length space) z ∙ q), sym (space_refused z))
 
-    pub book_refused : 65536 ≤ v → (v ≡ run_result b o (length space)) × (space ≡ run_space b o space)
+  pub book_refused : (e : Refusal) → check_result b ≡ refusal_number e → (refusal_number e ≡ run_result b o (length space)) × (space ≡ run_space b o space)
+  unfolding run_refusal
+  book_refused e f =
+      let l = refusal_above e in
+      let k : 65536 ≤ check_result b = omega arith in
+      refuses_with (rw (le-leb 65536 (check_result b) k) f) (λ y. omega arith)
+
+  module _ (l : Accepted b) {w : Bool} (f : w ≡ wrong_list o) where
+    fits : leb 65536 (check_result b) ≡ false
+    fits = lt-leb 65536 (check_result b) l
+
+    pub list_refused : w ≡ true → (refused 10 0 ≡ run_result b o (length space)) × (space ≡ run_space b o space)
     unfolding run_refusal
-    book_refused l =
-        let k : 65536 ≤ check_result b = omega arith in
-        refuses_with (rw (le-leb 65536 (check_result b) k) (sym e)) (λ y. omega arith)
+    list_refused t = refuses_with (rw (fits, ← f, t) refl) (λ y. omega arith)
 
-    module _ (l : v < 65536) {w : Bool} (f : w ≡ wrong_list o) where
-      fits : leb 65536 (check_result b) ≡ false
-      fits = let k : check_result b < 65536 = omega arith in lt-leb 65536 (check_result b) k
-
-      pub list_refused : w ≡ true → (655360 ≡ run_result b o (length space)) × (space ≡ run_space b o space)
-      unfolding run_refusal
-      list_refused t = refuses_with (rw (fits, ← f, t) refl) (λ y. omega arith)
-
-      pub space_short : w ≡ false → length space < space_needed o → (720896 + space_needed o ≡ run_result b o (length space)) × (space ≡ run_space b o space)
-      unfolding run_refusal
-      space_short t s = refuses_with (rw (fits, ← f, t, lt-ltb (length space) (space_needed o) s) refl) (λ y. omega arith)
+    pub space_short : w ≡ false → length space < space_needed o → (refused 11 (space_needed o) ≡ run_result b o (length space)) × (space ≡ run_space b o space)
+    unfolding run_refusal
+    space_short t s = refuses_with (rw (fits, ← f, t, lt-ltb (length space) (space_needed o) s) refl) (λ y. omega arith)

@@ -17,10 +17,16 @@ use Rattle.model.proofs.Refusals.{refusal_small}
 use Rattle.model.proofs.Tests.{below, length-tab}
 use Rattle.model.proofs.Trails.{accepted_snoc, answers_snoc, trail_snoc}
 use Rattle.book.specs.Decoding.{book_of}
-use Rattle.sessions.specs.Holds.{Holds, Refuses, Stepped}
+use Rattle.sessions.specs.Holds.{Fits, Holds, Refuses, RefusesAt, SomeSession, Stepped, TakeHolds}
 use Rattle.sessions.specs.Lists.{order_at, orders_of, orders_to}
+use Rattle.sessions.specs.Readings.{order_is, refused_in}
+use Rattle.sessions.specs.declared.orders.Order.{Order}
+use Rattle.sessions.specs.declared.orders.Refused.{Refused}
 use Rattle.sessions.specs.declared.session.Session.{Session}
+use Rattle.sessions.proofs.Holds.{fits, step_refused, step_take}
 use Rattle.sessions.proofs.Lists.{orders_more, tab_last}
+use Rattle.sessions.proofs.Readings.{read_accepted, read_refused}
+use Rattle.std.specs.Prelude.{Err, IfOk, Ok, Result}
 use Rattle.status.specs.Status.{SummaryIs}
 use Rattle.status.specs.declared.Summary.{Summary}
 use Rattle.shown.specs.Shows.{AnswersAt}
@@ -81,12 +87,33 @@ refuses_small {b} x {L} {s} {r} h f = rw (f L h) (refusal_small (book_of b) L x)
 pub depth_small : {b : List ℕ} {L : List Entry} {s : Session} → Holds b L s → s.depth ≤ 16
 depth_small h = omega (arith, h.few, h.deep)
 
+-- what an order made of the session s, by whichever way it went: it was read as x, the session is t, and j orders were accepted, where k were before it
+pub record Turned (b : List ℕ) (s : Session) (o : List ℕ) (k : ℕ) (x : Result Order Refused) (t : Session) (j : ℕ) : Type 0 where
+  pub refuses : Refuses b s o (refused_in x)
+  pub says : IfOk x (order_is o)
+  pub step : Stepped b s o t
+  pub counted : j ≡ k + one_if (eqb (refused_in x) 0)
+
 -- an accepted order counts, a refused one doesn't
-pub counts_one : (k : ℕ) {r : ℕ} → r ≡ 0 → k + 1 ≡ k + one_if (eqb r 0)
+counts_one : (k : ℕ) {r : ℕ} → r ≡ 0 → k + 1 ≡ k + one_if (eqb r 0)
 counts_one k {r} z = ap (λ (t : Bool). k + one_if t) (sym (eq-eqb r 0 z))
 
-pub counts_none : (k : ℕ) {r : ℕ} → (r ≡ 0 → ⊥) → k ≡ k + one_if (eqb r 0)
+counts_none : (k : ℕ) {r : ℕ} → (r ≡ 0 → ⊥) → k ≡ k + one_if (eqb r 0)
 counts_none k {r} z = let e : eqb r 0 ≡ false = ne_eqb r 0 z in rw e (omega arith)
+
+module _ {b : List ℕ} {s : Session} (o : List ℕ) (k : ℕ) {x : Result Order Refused} (f : RefusesAt b s.depth o (refused_in x)) (p : IfOk x (order_is o)) where
+  pub turned_accepted : {y : Order} (t : Session) → x ≡ Ok y → TakeHolds b y s t → Turned b s o k x t (k + 1)
+  turned_accepted {y} t e h =
+      let z = read_accepted e in
+      record { refuses = f s refl; says = p; step = step_take b s o (f s refl) z y t (rw e at p) h; counted = counts_one k z }
+
+  pub turned_refused : {r : Refused} → x ≡ Err r → Turned b s o k x s k
+  turned_refused e =
+      let n = read_refused e in
+      record { refuses = f s refl; says = p; step = step_refused b s o (f s refl) n; counted = counts_none k n }
+
+  pub fits_accepted : {y : Order} → x ≡ Ok y → SomeSession b s → Fits b s y
+  fits_accepted {y} e h = fits b s o (f s refl) (read_accepted e) y (rw e at p) h
 
 -- ---- from the opening on
 module _ (b o old : List ℕ) where
@@ -132,35 +159,32 @@ module _ (b o old : List ℕ) where
   ran_room {n} {k} {s} {space} h l =
       ap length h.wrote ∙ length-written (answers bk (orders_to o n)) old (omega (arith, length_answers bk o n))
 
-  -- one order more
-  module _ {n k : ℕ} {s : Session} {space x : List ℕ} (e : x ≡ order_at o n) (room : 72 * (n + 1) + 72 ≤ length old) (h : RanTo b o old n s k space)
-      {r : ℕ} (f : Refuses b s x r) where
-    -- what the session says, before the order and after it
-    module _ {t : Session} (g : Stepped b s x t) {told told' : Summary} (said : SummaryIs b (T n) told) {space' : List ℕ}
-        (w : AnswersAt b x r t.now t.depth told (n + 1) space told' space') where
-      after : Holds b (push bk (T n) x) t
-      after = g.holds (T n) h.holds
+  -- one order more, and what the session says after it
+  module _ {n k j : ℕ} {s t : Session} {space space' x : List ℕ} {y : Result Order Refused} {told told' : Summary} (e : x ≡ order_at o n)
+      (room : 72 * (n + 1) + 72 ≤ length old) (h : RanTo b o old n s k space) (p : Turned b s x k y t j) (said : SummaryIs b (T n) told)
+      (w : (l : List ℕ) → IfOk y (order_is l) → AnswersAt b l (refused_in y) t.now t.depth told (n + 1) space told' space') where
+    answered : SummaryIs b (push bk (T n) x) told' × Adds (n + 1) (answer bk (T n) x) space space'
+    answered =
+        let after = p.step.holds (T n) h.holds in
+        w x p.says (T n) (p.refuses (T n) h.holds) said after.current after.deep
 
-      answered : SummaryIs b (push bk (T n) x) told' × Adds (n + 1) (answer bk (T n) x) space space'
-      answered = w (T n) (f (T n) h.holds) said after.current after.deep
+    pub says_more : SummaryIs b (T (n + 1)) told'
+    says_more = rw (orders_more o n, trail_snoc bk [] (orders_to o n) (order_at o n), ← e) answered.0
 
-      pub says_more : SummaryIs b (T (n + 1)) told'
-      says_more = rw (orders_more o n, trail_snoc bk [] (orders_to o n) (order_at o n), ← e) answered.0
-
-      pub more : {j : ℕ} → j ≡ k + one_if (eqb r 0) → RanTo b o old (n + 1) t j space'
-      more {j} c = record {
-        led = led_more n t h.led (rw e at g);
-        holds = rw (orders_more o n, trail_snoc bk [] (orders_to o n) (order_at o n), ← e) (g.holds _ h.holds);
-        counts =
-            c
-            ∙ ap (λ (i : ℕ). k + one_if (eqb i 0)) (rw e at (f (T n) h.holds))
-            ∙ ap (λ (i : ℕ). i + one_if (is_accepted bk (T n) (order_at o n))) h.counts
-            ∙ sym (accepted_snoc bk [] (orders_to o n) (order_at o n))
-            ∙ ap (accepted_count bk) (sym (orders_more o n));
-        wrote =
-            subst (λ (l : List Answer). space' ≡ written l old) (sym (answers_more bk o n))
-            ((rw e at answered.1) (answers bk (orders_to o n)) old (length_answers bk o n) room h.wrote);
-      }
+    pub more : RanTo b o old (n + 1) t j space'
+    more = record {
+      led = led_more n t h.led (rw e at p.step);
+      holds = rw (orders_more o n, trail_snoc bk [] (orders_to o n) (order_at o n), ← e) (p.step.holds _ h.holds);
+      counts =
+          p.counted
+          ∙ ap (λ (i : ℕ). k + one_if (eqb i 0)) (rw e at (p.refuses (T n) h.holds))
+          ∙ ap (λ (i : ℕ). i + one_if (is_accepted bk (T n) (order_at o n))) h.counts
+          ∙ sym (accepted_snoc bk [] (orders_to o n) (order_at o n))
+          ∙ ap (accepted_count bk) (sym (orders_more o n));
+      wrote =
+          subst (λ (l : List Answer). space' ≡ written l old) (sym (answers_more bk o n))
+          ((rw e at answered.1) (answers bk (orders_to o n)) old (length_answers bk o n) room h.wrote);
+    }
 
   -- ---- whole lists
   -- the space after the opening stands for the one before it

@@ -58,7 +58,8 @@ pub fn run_orders(book: &Book<'_>, orders: &[u8], answers: &mut [u8]) -> Ran
     let state = session.now;
     let mut told = show_opening(answers, &layout.sheets, &state);
     let mut accepted: u64 = 0;
-    for (i, bytes) in orders.chunks_exact(8).enumerate() {
+    let (orders, _) = orders.as_chunks::<8>();
+    for (i, bytes) in orders.iter().enumerate() {
         let order = read(book, session.depth, bytes);
         if let Ok(order) = order {
             accepted += 1;

@@ -23,7 +23,10 @@ use Rattle.book.specs.Decoding.{book_of}
 use Rattle.heads.specs.Heads.{columns_of, values_of}
 use Rattle.book.specs.Verdicts.{Accepted}
 use Rattle.counters.proofs.Ones.{complement}
-use Rattle.sessions.specs.Holds.{BackHolds, Holds, MarkHolds, NarrowHolds, Refuses, SomeSession, Stepped, no_state}
+use Rattle.sessions.specs.Holds.{BackHolds, Fits, Holds, MarkHolds, NarrowHolds, Refuses, SomeSession, Stepped, TakeHolds, no_state}
+use Rattle.sessions.specs.Readings.{order_is}
+use Rattle.sessions.specs.declared.orders.Order.{Order}
+use Rattle.sessions.specs.declared.orders.Order.TheVariants.{Back, Finish, Mark, Narrow}
 use Rattle.engine.specs.Openings.{places_below}
 use Rattle.engine.specs.States.{Narrows, StateIs}
 use Rattle.sessions.specs.declared.session.Session.{Session}
@@ -186,3 +189,16 @@ module _ (b : List ℕ) (s : Session) (o : List ℕ) where
       back_room k =
           let r = accepted_back (book_of b) h.trail o k (accepted h.trail h.holds) in
           (omega (arith, r.0), omega (arith, r.1, h.holds.deep), omega (arith, h.holds.few, h.holds.deep))
+
+    -- ---- the order as it was read
+    pub fits : (x : Order) → order_is o x → SomeSession b s → Fits b s x
+    fits (Narrow c m) p h = rw p.1 (narrow_inside h p.0)
+    fits Mark k h = mark_room h k
+    fits (Back m) p h = rw p.1 (back_room h p.0)
+    fits (Finish n) p h = tt
+
+    pub step_take : (x : Order) (t : Session) → order_is o x → TakeHolds b x s t → Stepped b s o t
+    step_take (Narrow c m) t p n = step_narrow t p.0 p.1 p.2 n
+    step_take Mark t k n = step_mark t k n
+    step_take (Back m) t p n = step_back t p.0 p.1 n
+    step_take (Finish n) t p e = rw e (step_other (λ k. omega (arith, p.0)) (λ k. omega (arith, p.0)) (λ k. omega (arith, p.0)))

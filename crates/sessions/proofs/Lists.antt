@@ -1,11 +1,12 @@
 -- Laws of lists of orders. Assumes nothing.
 use mathlib.Core.Path.{◌∙◌, ◌≡◌, ap, ap₂, refl}
 use mathlib.Core.List.{List, [], ◌++◌, ◌∷◌}
-use Prim.Native.Nat.{◌%◌, ◌*◌, ◌+◌, ◌-◌, ◌/◌, ◌<◌, suc, zero, ℕ}
+use Prim.Native.Nat.{◌%◌, ◌*◌, ◌+◌, ◌/◌, ◌<◌, suc, zero, ℕ}
 use native.Mathlib.Numerals.{add-one}
 use native.Mathlib.Omega.{arith}
-use lib.ListN.{drop, length, length-append, length-drop, take}
-use lib.Seq.{drop-append-le, drop_at, take_all, take-append-le}
+use lib.ListN.{drop, get_or, length, length-append, length-drop, take}
+use lib.Seq.{drop-append-le, drop-drop, drop_at, take_all, take-append-le}
+use Rattle.core.specs.Simd.{first_chunks}
 use Rattle.model.specs.Tests.{tab}
 use Rattle.model.proofs.Tests.{tab_same}
 use Rattle.sessions.specs.Lists.{order_at, orders_of, orders_to}
@@ -19,9 +20,16 @@ tab_last {A = A} (suc n) f = ap (λ (l : List A). f 0 ∷ l) (tab_last n (λ i. 
 pub orders_more : (l : List ℕ) (n : ℕ) → orders_to l (n + 1) ≡ orders_to l n ++ (order_at l n ∷ [])
 orders_more l n = rw add-one (tab_last n (order_at l))
 
--- the part that the code takes
-pub order_part : (l : List ℕ) (n at end : ℕ) → at ≡ 8 * n → end ≡ at + 8 → take (end - at) (drop at l) ≡ order_at l n
-order_part l n at end e f = let z : end - at ≡ 8 = omega arith in rw (z, e) refl
+-- the orders as the code has them, arrays of 8 bytes
+pub order_chunk : (l : List ℕ) {os : List (List ℕ)} (i : ℕ) (d : List ℕ) → os ≡ first_chunks 8 (length l / 8) l → i < length l / 8 → get_or os i d ≡ order_at l i
+order_chunk l i d e h = rw e (go (length l / 8) i l h)
+  where
+    go : (n i : ℕ) (xs : List ℕ) → i < n → get_or (first_chunks 8 n xs) i d ≡ order_at xs i
+    go zero i xs h = absurd (omega arith)
+    go (suc n) zero xs h = refl
+    go (suc n) (suc i) xs h =
+        let e : 8 + 8 * i ≡ 8 * suc i = omega arith in
+        go n i (drop 8 xs) (omega arith) ∙ ap (take 8) (drop-drop (8 * i) 8 xs ∙ ap (λ (j : ℕ). drop j xs) e)
 
 -- a list of whole orders with the order f appended
 pub orders_append : (l f : List ℕ) → length l % 8 ≡ 0 → length f ≡ 8 → orders_of (l ++ f) ≡ orders_of l ++ (f ∷ [])

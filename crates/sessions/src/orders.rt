@@ -1,10 +1,10 @@
 // One order of 8 bytes: what it asks for, or why it is refused.
-ghost use Rattle.std.specs.Prelude.{◌≡◌, ◌∷◌, ◌<◌, IfOk, length};
-ghost use Rattle.model.specs.Orders.{back_causes, finish_causes, first_cause, kind, mark_causes, mask, narrow_causes, outside, refuse◌if◌, some_wrong, try_limit};
+ghost use Rattle.std.specs.Prelude.{◌≡◌, ◌<◌, IfOk};
+ghost use Rattle.model.specs.Orders.{back_causes, finish_causes, kind, mark_causes, mask, narrow_causes, outside, try_limit};
 ghost use Rattle.book.specs.Decoding.{book_of};
 ghost use Rattle.heads.specs.Heads.{columns_of};
 ghost use Rattle.sessions.specs.Holds.{RefusesAt};
-ghost use Rattle.sessions.specs.Reads.{order_is, refused_in, refused_number};
+ghost use Rattle.sessions.specs.Readings.{order_is, refusal_with, refused_in, refused_number};
 
 use book::Book;
 use engine::state::places_below;
@@ -48,16 +48,14 @@ pub enum Order {
 }
 
 // The mask of an order.
-fn mask_of(order: &[u8]) -> u32
-    requires { length order.now ≡ 8 }
+pub fn mask_of(order: &[u8; 8]) -> u32
     ensures { result ≡ mask order.now }
 {
     fields::word_at(order, 4)
 }
 
 // The limit of a finish, in the bytes of a mask: the tries that it may make.
-fn limit_of(order: &[u8]) -> u32
-    requires { length order.now ≡ 8 }
+pub fn limit_of(order: &[u8; 8]) -> u32
     ensures { result ≡ try_limit order.now }
 {
     match mask_of(order) {
@@ -76,9 +74,9 @@ fn outside_column(book: &Book<'_>, c: usize, m: u32) -> bool
 
 // ---- an order of each kind: which of its bytes must be zero, and its own causes
 
-fn read_narrow(book: &Book<'_>, order: &[u8]) -> Result<Order, Refused>
-    requires { (length order.now ≡ 8) × (kind order.now ≡ 1) }
-    ensures refusal { refused_in result ≡ first_cause ((refuse 25 if some_wrong 12 order.now) ∷ narrow_causes (book_of book.now.bytes.now) order.now) }
+fn read_narrow(book: &Book<'_>, order: &[u8; 8]) -> Result<Order, Refused>
+    requires { kind order.now ≡ 1 }
+    ensures refusal { refused_in result ≡ refusal_with order.now (narrow_causes (book_of book.now.bytes.now) order.now) }
     ensures order { IfOk result (order_is order.now) }
 {
     if any_set(order, 2, 4) {
@@ -95,9 +93,9 @@ fn read_narrow(book: &Book<'_>, order: &[u8]) -> Result<Order, Refused>
     Ok(Order::Narrow { column, mask })
 }
 
-fn read_mark(depth: usize, order: &[u8]) -> Result<Order, Refused>
-    requires { (length order.now ≡ 8) × (kind order.now ≡ 2) }
-    ensures refusal { refused_in result ≡ first_cause ((refuse 25 if some_wrong 254 order.now) ∷ mark_causes depth) }
+fn read_mark(depth: usize, order: &[u8; 8]) -> Result<Order, Refused>
+    requires { kind order.now ≡ 2 }
+    ensures refusal { refused_in result ≡ refusal_with order.now (mark_causes depth) }
     ensures order { IfOk result (order_is order.now) }
 {
     if any_set(order, 1, 8) {
@@ -109,9 +107,9 @@ fn read_mark(depth: usize, order: &[u8]) -> Result<Order, Refused>
     Ok(Order::Mark)
 }
 
-fn read_back(depth: usize, order: &[u8]) -> Result<Order, Refused>
-    requires { (length order.now ≡ 8) × (kind order.now ≡ 3) }
-    ensures refusal { refused_in result ≡ first_cause ((refuse 25 if some_wrong 252 order.now) ∷ back_causes depth order.now) }
+fn read_back(depth: usize, order: &[u8; 8]) -> Result<Order, Refused>
+    requires { kind order.now ≡ 3 }
+    ensures refusal { refused_in result ≡ refusal_with order.now (back_causes depth order.now) }
     ensures order { IfOk result (order_is order.now) }
 {
     if any_set(order, 2, 8) {
@@ -124,9 +122,9 @@ fn read_back(depth: usize, order: &[u8]) -> Result<Order, Refused>
     Ok(Order::Back { mark })
 }
 
-fn read_finish(order: &[u8]) -> Result<Order, Refused>
-    requires { (length order.now ≡ 8) × (kind order.now ≡ 4) }
-    ensures refusal { refused_in result ≡ first_cause ((refuse 25 if some_wrong 14 order.now) ∷ finish_causes order.now) }
+fn read_finish(order: &[u8; 8]) -> Result<Order, Refused>
+    requires { kind order.now ≡ 4 }
+    ensures refusal { refused_in result ≡ refusal_with order.now (finish_causes order.now) }
     ensures order { IfOk result (order_is order.now) }
 {
     if any_set(order, 1, 4) {
@@ -140,8 +138,7 @@ fn read_finish(order: &[u8]) -> Result<Order, Refused>
 }
 
 // What an order asks for, or why it is refused. Of the session its depth is enough.
-pub fn read(book: &Book<'_>, depth: usize, order: &[u8]) -> Result<Order, Refused>
-    requires { length order.now ≡ 8 }
+pub fn read(book: &Book<'_>, depth: usize, order: &[u8; 8]) -> Result<Order, Refused>
     ensures refusal { RefusesAt book.now.bytes.now depth order.now (refused_in result) }
     ensures order { IfOk result (order_is order.now) }
 {

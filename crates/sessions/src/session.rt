@@ -6,6 +6,9 @@
 //
 // Always, for the trail that stands: `now` is its state, `depth` its number of checkpoints, and saved state k is that of the trail cut before
 // checkpoint k + 1, with its words, index and counts of words.
+//
+// The depth stands beside an array of sixteen: `Holds`, and what demand 3 says of two sessions (`Demand3`, promises), speak of the saved states by their
+// number.
 ghost use Rattle.std.specs.Prelude.{[], ◌+◌, ◌<◌, ◌≤◌};
 ghost use Rattle.heads.specs.Heads.{columns_of};
 ghost use Rattle.sessions.specs.Holds.{BackHolds, Fits, Holds, MarkHolds, NarrowHolds, SomeSession, TakeHolds};
@@ -38,8 +41,9 @@ fn blank() -> State {
 pub fn open(layout: &Layout<'_>) -> Session
     ensures { Holds layout.now.sheets.book.now [] result }
 {
+    let now = opening(layout);
     Session {
-        now: opening(layout),
+        now,
         depth: 0,
         saved: [blank(); 16],
     }

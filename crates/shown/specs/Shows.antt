@@ -7,7 +7,7 @@ use Rattle.engine.specs.States.{StateIs}
 use Rattle.engine.specs.declared.state.State.{State}
 use Rattle.search.specs.Searches.{OutcomeIs}
 use Rattle.search.specs.declared.Outcome.{Outcome as Held}
-use Rattle.sessions.specs.Reads.{refused_number}
+use Rattle.sessions.specs.Readings.{refused_number}
 use Rattle.sessions.specs.declared.orders.Refused.{Refused}
 use Rattle.status.specs.Status.{SummaryIs}
 use Rattle.status.specs.declared.Summary.{Summary}

@@ -6,7 +6,7 @@
 
 ghost use Rattle.std.specs.Prelude.{◌+◌, ◌*◌, ◌<◌, ◌≤◌, IfOk, List, length, ℕ};
 ghost use Rattle.engine.specs.States.{SomeState};
-ghost use Rattle.sessions.specs.Reads.{order_is, refused_in};
+ghost use Rattle.sessions.specs.Readings.{order_is, refused_in};
 ghost use Rattle.shown.specs.Shows.{AnswersAt, OpensWith, ShowsAt, ShowsBesides, TellsAfter, refusal_shown};
 
 use answers::*;
@@ -23,7 +23,10 @@ fn outcome_of(layout: &Layout<'_>, order: Result<Order, Refused>, state: &State)
 {
     match order {
         Ok(Order::Finish { limit }) => search::finish(layout, state, limit),
-        _ => Outcome::StateOnly,
+        Ok(Order::Narrow { .. }) => Outcome::StateOnly,
+        Ok(Order::Mark) => Outcome::StateOnly,
+        Ok(Order::Back { .. }) => Outcome::StateOnly,
+        Err(_) => Outcome::StateOnly,
     }
 }
 
@@ -40,7 +43,9 @@ fn told_after(
     match order {
         Ok(Order::Narrow { .. }) => summarise(sheets, state),
         Ok(Order::Back { .. }) => summarise(sheets, state),
-        _ => told,
+        Ok(Order::Mark) => told,
+        Ok(Order::Finish { .. }) => told,
+        Err(_) => told,
     }
 }
 

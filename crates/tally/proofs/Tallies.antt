@@ -17,6 +17,7 @@ use Rattle.model.proofs.Tallies.{count_last, count_most, count_same}
 use Rattle.model.proofs.Tests.{below, either, none_count, one_if_le, same_test}
 use Rattle.fields.specs.Bytes.{byte_at, word_at}
 use Rattle.counters.specs.Counters.{FirstRows, PastRows, cell_place}
+use Rattle.cells.proofs.Halves.{from_place}
 use Rattle.cells.specs.Cells.{IsCell, Readable, cell_at}
 use Rattle.tally.specs.Tallies.{Counted, Counts, Raised, RowBytes, RowCounted, count_at, places_of, rows_with}
 
@@ -35,10 +36,10 @@ pub raise_room : {C : List ℕ} {n : ℕ} (i : ℕ) → Counts n C → n < 1000 
 raise_room i h l = omega (arith, h.most i)
 
 -- the places in turn: none yet, and one more
-no_place : (cell : ℕ → ℕ) {C : List ℕ} → length C ≡ 128 → RowCounted 0 cell C C
+pub no_place : (cell : ℕ → ℕ) {C : List ℕ} → length C ≡ 128 → RowCounted 0 cell C C
 no_place cell h = record { size = h; at = λ j v l m. rw (le-ltb j 0 (omega arith)) (omega arith) }
 
-one_place : {cell : ℕ → ℕ} {C C₁ C₂ : List ℕ} (n : ℕ) → cell n < 32 → RowCounted n cell C C₁ → {i : ℕ} → i ≡ 32 * n + cell n → Raised i C₁ C₂ → RowCounted (n + 1) cell C C₂
+pub one_place : {cell : ℕ → ℕ} {C C₁ C₂ : List ℕ} (n : ℕ) → cell n < 32 → RowCounted n cell C C₁ → {i : ℕ} → i ≡ 32 * n + cell n → Raised i C₁ C₂ → RowCounted (n + 1) cell C C₂
 one_place {cell} {C} {C₁} {C₂} n h p {i} q r = record { size = r.size; at = λ j v l m. omega (arith, rw q at (r.at (32 * j + v)), p.at j v l m, go j v m (below j n) (below n j)) }
   where
     go : (j v : ℕ) → v < 32 → (j < n) ⊎ (n ≤ j) → (n < j) ⊎ (j ≤ n)
@@ -53,33 +54,9 @@ one_place {cell} {C} {C₁} {C₂} n h p {i} q r = record { size = r.size; at = 
         same v =
             ap one_if (same_test _ _ (λ e. let q = eqb-true (32 * n + v) (32 * n + cell n) e in eq-eqb (cell n) v (omega arith)) (λ e. let q = eqb-true (cell n) v e in eq-eqb (32 * n + v) (32 * n + cell n) (omega arith)))
 
--- the last five bits of a number
-low_bits : (m x y : ℕ) → m ≡ x + 32 * y → m % 32 ≡ x % 32
-low_bits m x y e = omega arith
-
--- the values of a row that is read as one number
-module _ {b : List ℕ} {at row : ℕ} (h : RowBytes b at) (e : row ≡ word_at b at) where
-  bytes : (byte_at b (at + 0) < 256) × (byte_at b (at + 1) < 256) × (byte_at b (at + 2) < 256) × (byte_at b (at + 3) < 256)
-  bytes = (h.byte 0 (omega arith), h.byte 1 (omega arith), h.byte 2 (omega arith), h.byte 3 (omega arith))
-
-  first : byte_at b (at + 0) ≡ byte_at b at
-  first = let z : at + 0 ≡ at = omega arith in ap (byte_at b) z
-
-  pub word_pair : {C C₁ C₂ : List ℕ} → length C ≡ 128 → Raised (row % 32) C C₁ → Raised (32 + row / 256 % 32) C₁ C₂ → RowCounted 2 (λ j. byte_at b (at + j) % 32) C C₂
-  word_pair l p q =
-      let e0 = low_bits row (byte_at b (at + 0)) (8 * byte_at b (at + 1) + 2048 * byte_at b (at + 2) + 524288 * byte_at b (at + 3)) (omega (arith, bytes, first)) in
-      let e1 = low_bits (row / 256) (byte_at b (at + 1)) (8 * byte_at b (at + 2) + 2048 * byte_at b (at + 3)) (omega (arith, bytes, first)) in
-      one_place 1 (omega arith) (one_place 0 (omega arith) (no_place (λ j. byte_at b (at + j) % 32) l) (omega (arith, e0)) p) (omega (arith, e1)) q
-
-  pub word_third : {C C₂ C₃ : List ℕ} → RowCounted 2 (λ j. byte_at b (at + j) % 32) C C₂ → Raised (64 + row / 65536 % 32) C₂ C₃ → RowCounted 3 (λ j. byte_at b (at + j) % 32) C C₃
-  word_third p r =
-      let e2 = low_bits (row / 65536) (byte_at b (at + 2)) (8 * byte_at b (at + 3)) (omega (arith, bytes, first)) in
-      one_place 2 (omega arith) p (omega (arith, e2)) r
-
-  pub word_fourth : {C C₃ C₄ : List ℕ} → RowCounted 3 (λ j. byte_at b (at + j) % 32) C C₃ → Raised (96 + row / 16777216 % 32) C₃ C₄ → RowCounted 4 (λ j. byte_at b (at + j) % 32) C C₄
-  word_fourth p s =
-      let e3 = low_bits (row / 16777216) (byte_at b (at + 3)) 0 (omega (arith, bytes, first)) in
-      one_place 3 (omega arith) p (omega (arith, e3)) s
+-- the value at a place of a row that is read as one number
+pub row_value : {b : List ℕ} {at row : ℕ} → RowBytes b at → row ≡ word_at b at → (j : ℕ) → j < 4 → row / 2 ^ (8 * j) % 32 ≡ byte_at b (at + j) % 32
+row_value {b} {at} h e j l = let z = from_place b at j l h.byte e in omega (arith, z)
 
 -- the bytes of cells
 pub cell_bytes : {b : List ℕ} {begin from word at : ℕ} (k : ℕ) → Readable b begin from word → bit k word ≡ true → at ≡ cell_place begin (from + k) 0 → RowBytes b at
@@ -224,3 +201,28 @@ places_fit k = go (below k 3) (below k 4)
     go (inl l) _ = rw (lt-ltb k 3 l) (omega arith, λ f. omega arith)
     go (inr l) (inl m) = rw (le-ltb k 3 l, lt-ltb k 4 m) (omega arith, λ f. omega arith)
     go (inr l) (inr m) = rw (le-ltb k 3 l, le-ltb k 4 m) (omega arith, λ f. omega arith)
+
+-- the width that is counted: as many places as it has
+width_places : (k : ℕ) → 2 ≤ k → k ≤ 4 → places_of k ≡ k
+unfolding places_of
+width_places k l m = go (below k 3) (below k 4)
+  where
+    go : (k < 3) ⊎ (3 ≤ k) → (k < 4) ⊎ (4 ≤ k) → cond (ltb k 3) 2 (cond (ltb k 4) 3 4) ≡ k
+    go (inl p) _ = rw (lt-ltb k 3 p) (omega arith)
+    go (inr p) (inl q) = rw (le-ltb k 3 p, lt-ltb k 4 q) (omega arith)
+    go (inr p) (inr q) = rw (le-ltb k 3 p, le-ltb k 4 q) (omega arith)
+
+pub row_of_width : {k : ℕ} {cell : ℕ → ℕ} {C C' : List ℕ} → 2 ≤ k → k ≤ 4 → RowCounted k cell C C' → RowCounted (places_of k) cell C C'
+row_of_width {k} l m r = record { size = r.size; at = λ j v p q. rw (width_places k l m) (r.at j v p q) }
+
+-- two widths at which as many places are counted
+pub counted_width : {k m : ℕ} {b : List ℕ} {begin from word : ℕ} {C C' : List ℕ} → places_of k ≡ places_of m → Counted k b begin from word C C' → Counted m b begin from word C C'
+counted_width e h = record { size = h.size; at = λ j v l n. rw (← e) (h.at j v l n) }
+
+pub few_places : (k : ℕ) → k < 3 → places_of 2 ≡ places_of k
+unfolding places_of
+few_places k l = rw (lt-ltb k 3 l) refl
+
+pub all_places : (k : ℕ) → 4 ≤ k → places_of 4 ≡ places_of k
+unfolding places_of
+all_places k l = rw (le-ltb k 3 (omega arith), le-ltb k 4 l) refl

@@ -21,9 +21,9 @@ use Rattle.model.proofs.Tests.{all_below_last, and_assoc, and_l, and_true, below
 use Rattle.heads.specs.Heads.{column_of, rows_of}
 use Rattle.counters.specs.Counters.{near_place}
 use Rattle.cells.specs.Cells.{Kept, KeptInside, Readable, row_inside}
-use Rattle.words.specs.Sheets.{AtSheet, CutBy, IndexOf, Inside, OnlySheet, SheetWords, Sized, WordCut, WordKept, WordThere, is_set, passes_at, passes_below, swapped, value_at, value_in}
+use Rattle.words.specs.Sheets.{AtSheet, CutBy, IndexOf, Inside, Keeps, OnlySheet, SheetWords, Sized, WordCut, WordKept, WordThere, is_set, passes_at, passes_below, swapped, value_at, value_in}
 use Rattle.words.proofs.Indexes.{Where, index_dropped, index_kept, left, length-swapped, names_other, neither, of_set_other, of_set_same, of_swapped, of_swapped_other, other, other_left, other_lt, other_rest, other_right, past_limit, right, set_below, where_is}
-use Rattle.words.proofs.Places.{block_there, cell_is, cell_there}
+use Rattle.words.proofs.Places.{block_there, cell_is, cell_there, eight}
 
 pub row_word : (W : List ℕ) (s w k : ℕ) → k < 64 → is_set W s (64 * w + k) ≡ bit k (of_sheet W s w)
 unfolding is_set
@@ -87,13 +87,29 @@ only_more p q =
     }
 
 -- ---- one word
-module _ {s : ℕ} (eight : s < 8) {p : ℕ} {W X N : List ℕ} (h : IndexOf s W X N) (size : Sized W X N) (l : p < get_or N s 0)
-    {w word keep : ℕ} (ew : w ≡ of_sheet X s p) (eword : word ≡ of_sheet W s w) {test : ℕ → Bool} (k : WordKept test w word keep) where
+module _ {b : List ℕ} {begin s : ℕ} (a : AtSheet b begin s) {W X N : List ℕ} (before : SheetWords b s W X N) {p : ℕ} (l : p < get_or N s 0)
+    {w word : ℕ} (at_p : (w ≡ of_sheet X s p) × (word ≡ of_sheet W s w) × (w < 8)) {gives : ℕ → ℕ → ℕ → Type 0} {test : ℕ → Bool}
+    (keeps : Keeps b begin gives test) {keep : ℕ} (given : gives w word keep) where
+  h : IndexOf s W X N
+  h = before.indexed
+
+  size : Sized W X N
+  size = before.sized
+
   small : p < 8
   small = omega (arith, h.few)
 
+  ew : w ≡ of_sheet X s p
+  ew = at_p.0
+
   w_small : w < 8
-  w_small = rw ew (h.each p small)
+  w_small = at_p.2
+
+  eword : word ≡ of_sheet W s w
+  eword = at_p.1
+
+  k : WordKept test w word keep
+  k = keeps.at w word keep (there_at a before l at_p) given
 
   kept_here : (W' : List ℕ) → of_sheet W' s w ≡ keep → WordKept test (of_sheet X s p) (of_sheet W s (of_sheet X s p)) (of_sheet W' s (of_sheet X s p))
   kept_here W' e = rw (← ew, e, ← eword) k
@@ -116,7 +132,7 @@ module _ {s : ℕ} (eight : s < 8) {p : ℕ} {W X N : List ℕ} (h : IndexOf s W
     set_bits i = set_below W (8 * s + w) keep (2 ^ 64) keep-fits size.bits i
 
     here : of_sheet (set W (8 * s + w) keep) s w ≡ keep
-    here = of_set_same W s w keep w_small (omega (arith, eight, w_small, size.words))
+    here = of_set_same W s w keep w_small (omega (arith, eight a, w_small, size.words))
 
     there : (t i : ℕ) → i < 8 → (t ≡ s → i ≡ w → ⊥) → of_sheet (set W (8 * s + w) keep) t i ≡ of_sheet W t i
     there t i q n = of_set_other W s w keep w_small t i q n
@@ -145,10 +161,10 @@ module _ {s : ℕ} (eight : s < 8) {p : ℕ} {W X N : List ℕ} (h : IndexOf s W
       before = λ i r. of_swapped X s p q small q_small there_x i ∙ ap (of_sheet X s) (other_rest p q i (λ e. omega arith) (λ e. omega arith));
       after = λ i r y. (other p q i, from i r, other_lt p q i 8 small q_small y, of_swapped X s p q small q_small there_x i);
       indexed =
-          rw (get_or-set_same N s q 0 (omega (arith, eight, size.nonzero)))
+          rw (get_or-set_same N s q 0 (omega (arith, eight a, size.nonzero)))
           (index_dropped h p l (of_sheet (set W (8 * s + w) keep) s) rest_same (ap (of_sheet (set W (8 * s + w) keep) s) (sym ew) ∙ here ∙ z)
           (of_sheet (swapped X (8 * s + p) (8 * s + q)) s) (of_swapped X s p q small q_small there_x));
-      limit = rw (get_or-set_same N s q 0 (omega (arith, eight, size.nonzero))) (omega arith);
+      limit = rw (get_or-set_same N s q 0 (omega (arith, eight a, size.nonzero))) (omega arith);
       only = record {
         words = λ t i r n. there t i r (λ y e. n y);
         index = λ t i r n. of_swapped_other X s p q small q_small there_x t i r n;
@@ -169,7 +185,7 @@ module _ {s : ℕ} (eight : s < 8) {p : ℕ} {W X N : List ℕ} (h : IndexOf s W
         q_small = omega (arith, h.few)
 
         there_x : 8 * s + 8 ≤ length X
-        there_x = omega (arith, eight, size.index)
+        there_x = omega (arith, eight a, size.index)
 
         from : (i : ℕ) → p ≤ i → p ≤ other p q i
         from i r = go (where_is p q i)

@@ -17,7 +17,7 @@ use Rattle.book.specs.Decoding.{book_of, row_of, sheet_of}
 use Rattle.fields.specs.Bytes.{byte_at}
 use Rattle.heads.specs.Heads.{column_of, forbids_of, rows_of, sheets_of, values_of, width_of}
 use Rattle.rows.specs.Rows.{blocks_needed, blocks_of, row_place}
-use Rattle.book.proofs.Decoding.{RightBook, accepted_right, filler_zero, right_formed, rises, row_inside, value_cell}
+use Rattle.book.proofs.Decoding.{RightBook, accepted_right, filler_zero, right_formed, row_inside, value_cell}
 use Rattle.rows.proofs.Rows.{first_block_later, right_length}
 use Rattle.heads.proofs.Heads.{column_inside, columns_range, rows_most, sheets_most, values_range, width_range}
 use Rattle.counters.specs.Counters.{cell_place}

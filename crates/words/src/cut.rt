@@ -31,7 +31,8 @@ fn cut_word<F: Fn(usize, u64) -> u64>(
     true
 }
 
-// The rows of the sheet cut, word by word, to what `keep` gives for a word by its number and its rows. Whether a row was cut.
+// The rows of the sheet cut, word by word, to what `keep` gives for a word by its number and its rows. Whether a row was cut. Each closure has a copy of its own,
+// so pass 1 stays in one place, and a compiler sees it whole.
 fn cut<F: Fn(usize, u64) -> u64>(sheet: &Sheet<'_>, keep: F, rows: &mut Rows) -> bool
     requires { SheetWords sheet.now.book.now sheet.now.number rows.old.valid rows.old.index rows.old.nonzero × ((w x : ℕ) → WordThere sheet.now.book.now sheet.now.begin w x → F.pre keep w x) × ((test : ℕ → Bool) × Keeps sheet.now.book.now sheet.now.begin (F.post keep) test) }
     ensures { ((test : ℕ → Bool) → Keeps sheet.now.book.now sheet.now.begin (F.post keep) test → CutBy test sheet.now.number rows.old.valid rows.old.index rows.old.nonzero rows.new.valid rows.new.index rows.new.nonzero) × (result ≡ false → rows.new.valid ≡ rows.old.valid) }

@@ -7,6 +7,8 @@ ghost use Rattle.model.specs.States.{of_sheet};
 ghost use Rattle.words.specs.Sheets.{IndexOf, rows_to, swapped};
 
 // The words of all sheets, the numbers of each sheet's words in the order of its index, and how many of them are not zero.
+//
+// Eight entries a sheet in one array, not an array of sheets: `of_sheet` (model, States), of which the theorems speak, reads entry 8 s + i.
 #[derive(Clone, Copy)]
 pub struct Rows {
     pub valid: [u64; 64],
@@ -46,12 +48,13 @@ impl Rows {
     }
 
     // Position p of the index of sheet s, whose word became zero, goes past the limit: it changes places with the last one at or below it.
-    pub fn drop_word(&mut self, s: usize, p: usize)
+    pub(crate) fn drop_word(&mut self, s: usize, p: usize)
         requires { (s < 8) × (p < get_or self.old.nonzero s 0) × (get_or self.old.nonzero s 0 ≤ 8) }
         ensures { (self.new.index ≡ swapped self.old.index (8 * s + p) (8 * s + (get_or self.old.nonzero s 0 - 1))) × (self.new.nonzero ≡ set self.old.nonzero s (get_or self.old.nonzero s 0 - 1)) × (self.new.valid ≡ self.old.valid) }
     {
         let n = self.nonzero[s] - 1;
-        self.index.swap(8 * s + p, 8 * s + usize::from(n));
+        let last = 8 * s + usize::from(n);
+        self.index.swap(8 * s + p, last);
         self.nonzero[s] = n;
     }
 }

@@ -1,4 +1,4 @@
-use Rattle.std.proofs.Common.{arith, ap, ◌∙◌}
+use Rattle.std.proofs.Common.{arith}
 use Rattle.rows.specs.Bounds.{BoundedSheet}
 use Rattle.rows.specs.Rows.{blocks_of}
 use Rattle.book.proofs.Refusals.{block_first_of}

@@ -25,7 +25,7 @@ bounds-book-at g c = let z = turn_row c.requires.1 c.loop-i.invariant.1 c.in-Som
 pub loop-i-preserved : goal.loop-i-preserved
 loop-i-preserved g c = let t = c.in-Some.ensures.steps in
     let at = stands_at c.args.p c.on.result c.in-Some.i c.requires.1.first c.on.ensures in
-    (walked_turn c.loop-i.invariant.0 t.cleared c.has.ensures.1 t.few (cell_in_lem _ _ _ _ _ _ _ _ (c.wide32-v.ensures ∙ row_cell c.args.book.now _ _ _ at) c.has.ensures.0), part_cleared t.cleared c.loop-i.invariant.1)
+    (walked_turn c.loop-i.invariant.0 t.cleared c.has.ensures.1 t.few (cell_in_lem _ _ _ _ _ _ _ _ (c.from-v.ensures ∙ row_cell c.args.book.now _ _ _ at) c.has.ensures.0), part_cleared t.cleared c.loop-i.invariant.1)
 
 pub returns : goal.returns
 returns g c = kept_end (rw c.in-None.ensures.steps.0 at c.loop-i.invariant.0)

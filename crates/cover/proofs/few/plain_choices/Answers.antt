@@ -1,11 +1,11 @@
 use mathlib.Core.Path.{◌∙◌, ◌≡◌, refl}
-use Prim.Native.Nat.{◌+◌, ◌<◌}
+use Prim.Native.Nat.{◌+◌}
 use native.Mathlib.Omega.{arith}
 use Rattle.heads.specs.Heads.{width_of}
 use Rattle.words.proofs.Cuts.{bit_is, bit_not}
 use Rattle.words.proofs.Places.{column_below, eight, head_there, width_most}
 use Rattle.cover.specs.Covers.{plain_in}
-use Rattle.cover.proofs.Fewer.{plain_free, plain_most, plain_short}
+use Rattle.cover.proofs.Fewer.{in_width, plain_free, plain_most, plain_short}
 use Rattle.cover.proofs.few.plain_choices.Goals as goal
 use Rattle.cover.proofs.few.plain_choices.Goals.{then-shorts-j-eq0, else-shorts-j-eq0}
 
@@ -21,22 +21,22 @@ loop-j-init c = refl
 
 pub overflow_shr-shorts : goal.overflow_shr-shorts
 overflow_shr-shorts c =
-    let inside : c.loop-j.j < width_of c.args.book.now c.args.s = omega (arith, c.loop-j-test.true, rw c.of-head.ensures at c.width-j-end.ensures.0) in
+    let inside = in_width c.args.s c.of-head.ensures c.width-j-end.ensures.0 c.loop-j-test.true in
     omega (arith, inside, (width_most c.requires.0).1)
 
 pub column-requires : goal.column-requires
 column-requires c =
-    let inside : c.loop-j.j < width_of c.args.book.now c.args.s = omega (arith, c.loop-j-test.true, rw c.of-head.ensures at c.width-j-end.ensures.0) in
+    let inside = in_width c.args.s c.of-head.ensures c.width-j-end.ensures.0 c.loop-j-test.true in
     (eight c.requires.0, omega (arith, inside, (width_most c.requires.0).1))
 
 pub bounds-sizes-column : goal.bounds-sizes-column
 bounds-sizes-column c =
-    let inside : c.loop-j.j < width_of c.args.book.now c.args.s = omega (arith, c.loop-j-test.true, rw c.of-head.ensures at c.width-j-end.ensures.0) in
+    let inside = in_width c.args.s c.of-head.ensures c.width-j-end.ensures.0 c.loop-j-test.true in
     omega (arith, rw c.of-head.ensures at c.column.ensures.0, column_below c.requires.0 _ inside)
 
 pub overflow_mul-n : goal.overflow_mul-n
 overflow_mul-n c =
-    let inside : c.loop-j.j < width_of c.args.book.now c.args.s = omega (arith, c.loop-j-test.true, rw c.of-head.ensures at c.width-j-end.ensures.0) in
+    let inside = in_width c.args.s c.of-head.ensures c.width-j-end.ensures.0 c.loop-j-test.true in
     let p = c.requires in
     omega (
       arith,

@@ -1,10 +1,6 @@
 use Rattle.model.proofs.Masks.{bit_below}
-use Rattle.cells.proofs.Walks.{all_left}
-use Rattle.cover.proofs.Covers.{each_matched, every_matched, one_missed, tried_all, tried_start, tried_turn}
+use Rattle.cover.proofs.Covers.{each_matched, every_matched, one_missed, tried_all, tried_turn}
 use Rattle.cover.proofs.test.all_matched.Goals as goal
-
-pub loop-v-init : goal.loop-v-init
-loop-v-init c = tried_start (all_left _ _ c.into_iter-v-iterator.ensures.into_iter_gives c.of-v-items.ensures)
 
 pub put_sheet-requires : goal.put_sheet-requires
 put_sheet-requires c = (c.requires, bit_below 32 _ _ (c.fits-x 3) (c.loop-v.invariant.part.at _ c.in-Some.ensures.steps.cleared.here))

@@ -1,10 +1,6 @@
 use Rattle.model.proofs.Masks.{bit_below, bit_pow, bit_pow_only}
-use Rattle.cells.proofs.Walks.{all_left}
-use Rattle.cover.proofs.Covers.{all_allowed, not_allowed, tried_all, tried_start, tried_turn}
+use Rattle.cover.proofs.Covers.{all_allowed, not_allowed, tried_all, tried_turn}
 use Rattle.cover.proofs.test.allows_all.Goals as goal
-
-pub loop-c-init : goal.loop-c-init
-loop-c-init c = tried_start (all_left _ _ c.into_iter-c-iterator.ensures.into_iter_gives c.of-c-items.ensures)
 
 pub allows_with-requires : goal.allows_with-requires
 allows_with-requires c = bit_below 32 _ _ (c.fits-x 2) (c.loop-c.invariant.part.at _ c.in-Some.ensures.steps.cleared.here)

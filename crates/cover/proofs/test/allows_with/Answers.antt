@@ -7,9 +7,8 @@ use lib.Bits.{bit_and, bit_or}
 use lib.ListN.{get_or}
 use Rattle.model.specs.Masks.{bit}
 use Rattle.model.proofs.Masks.{bit_below, bit_pow, bit_pow_only, ones32}
-use Rattle.cells.proofs.Walks.{all_left}
 use Rattle.cover.specs.Covers.{IsTable, allowed_with}
-use Rattle.cover.proofs.Covers.{all_allowed, allowed_small, none_outside, not_allowed, some_outside, tried_all, tried_start, tried_turn}
+use Rattle.cover.proofs.Covers.{all_allowed, allowed_small, none_outside, not_allowed, some_outside, tried_all, tried_turn}
 use Rattle.cover.proofs.test.allows_with.Goals as goal
 
 -- what the code tests
@@ -24,9 +23,6 @@ inside : (T x : List ℕ) (c e : ℕ) → get_or x 0 0 < 2 ^ 32 → IsTable T
     → (a : ℕ) → bit a (get_or x 0 0) ≡ true → bit a (allowed_with T c e) ≡ true
 unfolding allowed_with
 inside T x c e l h z = none_outside (get_or x 0 0) (allowed_with T c e) l (allowed_small T c e h) z
-
-pub loop-e-init : goal.loop-e-init
-loop-e-init c = tried_start (all_left _ _ c.into_iter-e-iterator.ensures.into_iter_gives c.of-e-items.ensures)
 
 pub bounds-table-e : goal.bounds-table-e
 bounds-table-e c = omega (arith, bit_below 32 _ _ (c.fits-x 1) (c.loop-e.invariant.part.at _ c.in-Some.ensures.steps.cleared.here))

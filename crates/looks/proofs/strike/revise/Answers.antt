@@ -4,7 +4,7 @@ use borrow.Author.Tests.{eqb-true, not-false}
 use Rattle.model.proofs.Tests.{or_false_l, or_false_r}
 use Rattle.words.proofs.Cuts.{only_more}
 use Rattle.words.proofs.Places.{eight, width_most}
-use Rattle.looks.proofs.Looks.{cut_known, none_in, revised_carried, revised_failed, revised_none, revised_same, revised_struck, rows_are, rows_known, some_in, some_there, struck_known}
+use Rattle.looks.proofs.Looks.{cut_rows, none_in, revised_carried, revised_failed, revised_none, revised_same, revised_struck, rows_are, rows_known, some_in, some_there, struck_known}
 use Rattle.looks.proofs.strike.revise.Goals as goal
 
 pub cut_places-cut-requires : goal.cut_places-cut-requires
@@ -16,7 +16,7 @@ returns-then-not-forbids-cut c = let p = c.requires in
     let e = c.cut_places-cut.ensures.0 in
     let q = c.if-not-forbids-cut.true in
     let f = c.cut_places-cut.ensures.1 (or_false_r c.forbids-forbids.result _ q) in
-    revised_same a (sym c.forbids-forbids.ensures ∙ or_false_l _ _ q) (record { columns = c.told-dom; bits = c.fits-dom }) (cut_known a _ _ (rows_known a p.0 p.1) e) e.only p.0 f.0 f.1
+    revised_same a (sym c.forbids-forbids.ensures ∙ or_false_l _ _ q) (record { columns = c.told-dom; bits = c.fits-dom }) (cut_rows a p.0 p.1 e) e.only p.0 f.0 f.1
 
 pub bounds-rows-sheet : goal.bounds-rows-sheet
 bounds-rows-sheet c = eight c.args.laid.now.sheet.at
@@ -27,12 +27,12 @@ returns-then-not-forbids-rows c = let p = c.requires in
     let e = c.cut_places-cut.ensures.0 in
     let q = c.if-not-forbids-rows.true in
     let none = eqb-true _ _ (not-false _ (or_false_r c.forbids-forbids.result _ q)) in
-    revised_none a (sym c.forbids-forbids.ensures ∙ or_false_l _ _ q) (record { columns = c.told-dom; bits = c.fits-dom }) (cut_known a _ _ (rows_known a p.0 p.1) e) e.only none
+    revised_none a (sym c.forbids-forbids.ensures ∙ or_false_l _ _ q) (record { columns = c.told-dom; bits = c.fits-dom }) (cut_rows a p.0 p.1 e) e.only none
 
 pub strike-lost-requires : goal.strike-lost-requires
 strike-lost-requires c = let p = c.requires in
     let a = c.args.laid.now.sheet.at in
-    let h = cut_known a _ _ (rows_known a p.0 p.1) c.cut_places-cut.ensures.0 in
+    let h = cut_rows a p.0 p.1 c.cut_places-cut.ensures.0 in
     (h.words, rows_are a h)
 
 pub returns-then-not-forbids : goal.returns-then-not-forbids
@@ -41,7 +41,7 @@ returns-then-not-forbids c = let p = c.requires in
     let e = c.cut_places-cut.ensures.0 in
     let plain = c.if-not-forbids.true in
     let some = some_there c.forbids-forbids.result plain (ap not c.if-not-forbids-rows.false) in
-    revised_carried a (sym c.forbids-forbids.ensures ∙ plain) (record { columns = c.told-dom; bits = c.fits-dom }) (cut_known a _ _ (rows_known a p.0 p.1) e) e.only c.strike-lost.ensures some
+    revised_carried a (sym c.forbids-forbids.ensures ∙ plain) (record { columns = c.told-dom; bits = c.fits-dom }) (cut_rows a p.0 p.1 e) e.only c.strike-lost.ensures some
 
 pub bounds-dom-column : goal.bounds-dom-column
 bounds-dom-column c = c.column.ensures.2 (width_most c.args.laid.now.sheet.at).0
@@ -54,7 +54,7 @@ returns-then-dom-column-eq0 c = let a = c.args.laid.now.sheet.at in
 pub cut_struck-requires : goal.cut_struck-requires
 cut_struck-requires c = let p = c.requires in
     let a = c.args.laid.now.sheet.at in
-    let h = cut_known a _ _ (rows_known a p.0 p.1) c.cut_places-cut.ensures.0 in
+    let h = cut_rows a p.0 p.1 c.cut_places-cut.ensures.0 in
     (sym c.forbids-forbids.ensures ∙ c.if-not-forbids.false, struck_known a (record { columns = c.told-dom; bits = c.fits-dom }) c.strike-lost.ensures h)
 
 pub returns : goal.returns

@@ -1,7 +1,0 @@
-use Rattle.std.proofs.Common.{inl}
-use Rattle.rows.proofs.Rows.{head_there}
-use Rattle.book.proofs.Verdicts.{later_length}
-use Rattle.book.proofs.accepted.Book.head.Goals as goal
-
-pub of-requires : goal.of-requires
-of-requires c = head_there _ (later_length _ (inl c.args.self.now.accepted))

@@ -169,14 +169,6 @@ rows_more {b} {s} {n} {x} {W} {W'} {N} h l e f g =
         let z : t ≡ s = omega arith in
         rw (z, get_or-set_same N s x 0 (omega (arith, h.size))) (g ∙ ap (λ (i : ℕ). (i + 63) / 64) e)
 
--- ---- the index
-pub index_more : {X : List ℕ} {n x : ℕ} → FullIndex n X → n < 64 → x ≡ n % 8 → FullIndex (n + 1) (set X n x)
-index_more {X} {n} {x} h l e = record { size = length-set X n x ∙ h.size; own = λ i q. own i (below i n) q }
-  where
-    own : (i : ℕ) → (i < n) ⊎ (n ≤ i) → i < n + 1 → get_or (set X n x) i 0 ≡ i % 8
-    own i (inl p) q = get_or-set_other X n i x 0 (λ z. omega arith) ∙ h.own i p
-    own i (inr p) q = let z : i ≡ n = omega arith in rw z (get_or-set_same X n x 0 (omega (arith, h.size)) ∙ e)
-
 -- ---- all of it
 module _ (b : List ℕ) (acc : Accepted b) {D W X N : List ℕ} (hd : FullDomains b (columns_of b) D) (hr : FullRows b (sheets_of b) W N) (hx : FullIndex 64 X) where
   right : RightBook b

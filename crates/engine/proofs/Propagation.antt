@@ -166,9 +166,6 @@ module _ (b : List ℕ) (acc : Accepted b) where
   pub at_sheet : (s : ℕ) → s < sheets_of b → AtSheet b (first_byte b s) s
   at_sheet s l = record { accepted = acc; one = l; begins = refl }
 
-  pub at_laid : {begins scopes shorts : List ℕ} → LayoutOf b begins scopes shorts → (s : ℕ) → s < sheets_of b → AtSheet b (get_or begins s 0) s
-  at_laid h s l = record { accepted = acc; one = l; begins = h.starts s l }
-
   pub going_start : {opening : Bool} {waiting column : ℕ} {st : State} → Ready b opening waiting column st
       → Going b opening st.dom st.dom st.rows.valid st.rows.index st.rows.nonzero (replicate 8 column) waiting
   going_start {opening} {waiting} {column} {st} h = record {

@@ -47,9 +47,6 @@ some_value (suc x) v e = omega arith
 filled_size : (x : ℕ) → 0 < x → x < 2 ^ 32 → 0 < size x
 filled_size x p h = let r = some_bit 32 x h p in some_count 32 (λ v. bit v x) r.0 r.1 r.2
 
-pub few_sheets : (b : List ℕ) → Accepted b → sheets_of b ≤ 8
-few_sheets b acc = sheets_most b (accepted_right b acc).head
-
 -- ---- a state that is not failed
 module _ {b : List ℕ} (acc : Accepted b) {st : State} (o : OpenState b st) where
   abbrev C : ℕ

@@ -66,7 +66,7 @@ impl Outcome {
         match self {
             Outcome::StateOnly => *dom,
             Outcome::Found { masks, .. } => *masks,
-            Outcome::NotFound { .. } | Outcome::Stopped { .. } => *dom,
+            Outcome::NotFound { .. } | Outcome::Stopped { .. } => [0; 16],
         }
     }
 }

@@ -6,7 +6,7 @@ use native.Mathlib.Numerals.{add-one}
 use native.Mathlib.Omega.{arith}
 use lib.ListN.{drop, get_or, length, length-append, length-drop, take}
 use lib.Seq.{drop-append-le, drop-drop, drop_at, take_all, take-append-le}
-use Rattle.core.specs.Simd.{first_chunks}
+use Rattle.std.specs.Simd.{first_chunks}
 use Rattle.model.specs.Tests.{tab}
 use Rattle.model.proofs.Tests.{tab_same}
 use Rattle.sessions.specs.Lists.{order_at, orders_of, orders_to}

@@ -25,7 +25,7 @@ use Rattle.answers.specs.Spaces.{Adds}
 use Rattle.answers.specs.declared.Answer.{Answer as Written}
 use Rattle.answers.proofs.Spaces.{adds}
 use Rattle.shown.specs.Shows.{AnswersAt, OpensWith, ShowsAt, ShowsBesides, TellsAfter, refusal_shown}
-use Rattle.core.specs.Result.{result_err}
+use Rattle.std.specs.Result.{result_err}
 use Rattle.std.specs.Prelude.{Err, MatchOption, None, Ok, Option, Result, Some}
 use Rattle.sessions.specs.Readings.{refused_in, refused_number}
 use Rattle.sessions.specs.declared.orders.Order.{Order}

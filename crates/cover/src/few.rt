@@ -37,6 +37,7 @@ fn plain_choices(book: &[u8], s: usize, shorts: u32, sizes: &[u32; 16]) -> u32
 }
 
 // Whether fewer rows are set than there are choices. A word has 64 rows at most, so mostly none has to be counted.
+// It takes the book and s, and no `Sheet`: its clause never asked where the rows begin, and may not ask more.
 pub fn too_few(book: &[u8], s: usize, shorts: u32, sizes: &[u32; 16], rows: &Rows) -> bool
     requires { IsSheet book.now s × FewValues sizes.now × Sized rows.now.valid rows.now.index rows.now.nonzero × IndexOf s rows.now.valid rows.now.index rows.now.nonzero }
     ensures { result ≡ ltb (rows_to rows.now.valid rows.now.index s (get_or rows.now.nonzero s 0)) (plain_in book.now s shorts sizes.now (width_of book.now s)) }

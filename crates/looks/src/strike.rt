@@ -78,6 +78,7 @@ fn cut_struck(sheet: &Sheet<'_>, lost: u32, dom: &[u32; 16], rows: &mut Rows)
 // One that allows its rows fails where no row is left, and where no row was cut, every value keeps its support. One that forbids them has fewer choices as soon
 // as a column lost a value, even where no row was cut, so values are always counted; it fails where its first column becomes empty, and with it all of them.
 // What it strikes may be in rows that are set: these are cut at the end.
+// `Sized` stays a clause: of an array in a struct that is lent only the length is known, tried, and not that its words have 64 bits.
 pub fn revise(
     laid: &LaidSheet<'_>,
     changed: u32,

@@ -21,6 +21,7 @@ use words::index::Rows;
 #[derive(Clone, Copy)]
 pub struct Session {
     pub now: State,
+    // A depth beside the array: `Holds` and the theorems on it speak of both.
     pub depth: usize,
     pub saved: [State; 16],
 }

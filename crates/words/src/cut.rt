@@ -1,4 +1,6 @@
 // Pass 1: the rows of a sheet cut by the columns that changed.
+//
+// `SheetWords` stays a clause: it ties a sheet to rows that are lent for writing between the passes, so a type with the fact would end at each write.
 ghost use Rattle.std.specs.Prelude.{◌≡◌, Bool, false, ◌+◌, ◌*◌, ◌<◌, ℕ, get_or};
 ghost use Rattle.heads.specs.Heads.{width_of};
 ghost use Rattle.model.specs.States.{of_sheet};

@@ -6,7 +6,7 @@ ghost use Rattle.runs.specs.declared.run.RunRefusal.TheVariants as refusal;
 
 use book::{Book, Refusal};
 use engine::layout::*;
-use sessions::orders::read;
+use sessions::orders::{Order, read};
 use sessions::session::*;
 use shown::*;
 
@@ -63,7 +63,12 @@ pub fn run_orders(book: &Book<'_>, orders: &[u8], answers: &mut [u8]) -> Ran
         let order = read(book, session.depth, bytes);
         if let Ok(order) = order {
             accepted += 1;
-            session = session.take(&layout, order);
+            match order {
+                Order::Narrow { column, mask } => session = session.narrow(&layout, column, mask),
+                Order::Mark => session = session.mark(),
+                Order::Back { mark } => session = session.back(mark),
+                Order::Finish { .. } => {}
+            }
         }
         let state = session.now;
         told = show_order(answers, i + 1, &layout, order, session.depth, told, &state);

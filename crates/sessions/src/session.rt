@@ -11,9 +11,8 @@
 // number.
 ghost use Rattle.std.specs.Prelude.{[], ◌+◌, ◌<◌, ◌≤◌};
 ghost use Rattle.heads.specs.Heads.{columns_of};
-ghost use Rattle.sessions.specs.Holds.{BackHolds, Fits, Holds, MarkHolds, NarrowHolds, SomeSession, TakeHolds};
+ghost use Rattle.sessions.specs.Holds.{BackHolds, Holds, MarkHolds, NarrowHolds, SomeSession};
 
-use crate::orders::Order;
 use engine::layout::Layout;
 use engine::state::*;
 use words::index::Rows;
@@ -60,36 +59,30 @@ impl Session {
         self
     }
 
-    // The state is saved.
-    pub fn mark(mut self) -> Session
+    // The state is saved. The saved states are a local array here and in `back`: reached within the session, tried, they would be copied whole by a narrow too.
+    pub fn mark(self) -> Session
         requires { self.depth < 16 }
         ensures { MarkHolds self result }
     {
-        self.saved[self.depth] = self.now;
-        self.depth += 1;
-        self
+        let mut saved = self.saved;
+        saved[self.depth] = self.now;
+        Session {
+            now: self.now,
+            depth: self.depth + 1,
+            saved,
+        }
     }
 
     // The state saved at mark m comes back, and the mark is gone.
-    pub fn back(mut self, m: usize) -> Session
+    pub fn back(self, m: usize) -> Session
         requires { (1 ≤ m) × (m ≤ self.depth) × (self.depth ≤ 16) }
         ensures { BackHolds m self result }
     {
-        self.depth = m - 1;
-        self.now = self.saved[self.depth];
-        self
-    }
-
-    // What an order makes of the session that accepted it: a finish leaves it alone.
-    pub fn take(self, layout: &Layout<'_>, order: Order) -> Session
-        requires { SomeSession layout.now.sheets.book.now self × Fits layout.now.sheets.book.now self order }
-        ensures { TakeHolds layout.now.sheets.book.now order self result }
-    {
-        match order {
-            Order::Narrow { column, mask } => self.narrow(layout, column, mask),
-            Order::Mark => self.mark(),
-            Order::Back { mark } => self.back(mark),
-            Order::Finish { .. } => self,
+        let saved = self.saved;
+        Session {
+            now: saved[m - 1],
+            depth: m - 1,
+            saved,
         }
     }
 }

@@ -1,9 +1,10 @@
-use mathlib.Core.Path.{◌∙◌, ◌≡◌, refl, sym}
+use mathlib.Core.Path.{◌∙◌, ◌≡◌, ap, refl, sym}
 use mathlib.Core.List.{List, []}
 use Prim.Native.Nat.{◌*◌, ◌+◌, ◌/◌, ◌<◌, ◌≤◌, ℕ}
 use lib.ListN.{get_or, length}
 use native.Mathlib.Omega.{arith}
 use borrow.Author.Rules.{rules}
+use Rattle.std.specs.Prelude.{Ok}
 use Rattle.model.specs.Orders.{trail_from}
 use Rattle.model.specs.Tests.{tab}
 use Rattle.sessions.proofs.Lists.{order_chunk}
@@ -12,7 +13,7 @@ use Rattle.sessions.specs.Lists.{order_at}
 use Rattle.runs.proofs.Results.{right_list}
 use Rattle.runs.proofs.Runs.{Turned, depth_small, fits_accepted, more, opened_long, opened_ran, ran_few, ran_from, ran_room, says_more, turned_accepted, turned_refused}
 use Rattle.runs.proofs.run.run_orders.Goals as goal
-use Rattle.runs.proofs.run.run_orders.Goals.{Joined-order, in-Ok, in_default}
+use Rattle.runs.proofs.run.run_orders.Goals.{In-Ok, Joined-order, in-Ok+in-Back, in-Ok+in-Finish, in-Ok+in-Mark, in-Ok+in-Narrow, in_default}
 
 pub loop-i-init : goal.loop-i-init
 unfolding tab trail_from
@@ -29,19 +30,38 @@ loop-i-init c =
 turned : (c : Joined-order) → Turned c.args.book.now.bytes.now c.loop-i.session (get_or c.as_chunks.result.0.now c.loop-i.i []) c.loop-i.accepted
     c.match-order.order c.match-order.session c.match-order.accepted
 turned c =
+    let r = c.read-order.ensures.refusal in
+    let o = c.read-order.ensures.order in
     elim c.match-order.branch [
-      | in-Ok w ↦
+      | in-Ok+in-Narrow w ↦
           rw (w.order-is ∙ sym w.in-Ok.is, w.session-is, w.accepted-is)
-          (turned_accepted _ _ c.read-order.ensures.refusal c.read-order.ensures.order _ w.in-Ok.is (rw c.lay_out-layout.ensures at w.take-session.ensures))
+          (turned_accepted _ _ r o _ (w.in-Ok.is ∙ ap Ok w.in-Narrow.is) (rw c.lay_out-layout.ensures at w.narrow-session.ensures))
+      | in-Ok+in-Mark w ↦
+          rw (w.order-is ∙ sym w.in-Ok.is, w.session-is, w.accepted-is) (turned_accepted _ _ r o _ (w.in-Ok.is ∙ ap Ok w.in-Mark.is) w.mark-session.ensures)
+      | in-Ok+in-Back w ↦
+          rw (w.order-is ∙ sym w.in-Ok.is, w.session-is, w.accepted-is) (turned_accepted _ _ r o _ (w.in-Ok.is ∙ ap Ok w.in-Back.is) w.back-session.ensures)
+      | in-Ok+in-Finish w ↦
+          rw (w.order-is ∙ sym w.in-Ok.is, w.session-is, w.accepted-is) (turned_accepted _ _ r o _ (w.in-Ok.is ∙ ap Ok w.in-Finish.is) refl)
       | in_default w ↦
-          rw (w.order-is, w.session-is, w.accepted-is)
-          (turned_refused _ _ c.read-order.ensures.refusal c.read-order.ensures.order w.in_default.is)
+          rw (w.order-is, w.session-is, w.accepted-is) (turned_refused _ _ r o w.in_default.is)
     ]
 
-pub take-session-requires : goal.take-session-requires
-take-session-requires c =
-    let some : SomeSession c.args.book.now.bytes.now c.loop-i.session = record { trail = _; holds = c.loop-i.invariant.0.holds } in
-    rw c.lay_out-layout.ensures (some, fits_accepted _ 0 c.read-order.ensures.refusal c.read-order.ensures.order c.in-Ok.is some)
+-- some trail stands before it
+some : (c : In-Ok) → SomeSession c.args.book.now.bytes.now c.loop-i.session
+some c = record { trail = _; holds = c.loop-i.invariant.0.holds }
+
+pub narrow-session-requires : goal.narrow-session-requires
+narrow-session-requires c =
+    let z = some (goal.at.narrow-session-requires c).In-Ok in
+    rw c.lay_out-layout.ensures (fits_accepted _ 0 c.read-order.ensures.refusal c.read-order.ensures.order (c.in-Ok.is ∙ ap Ok c.in-Narrow.is) z, z)
+
+pub mark-session-requires : goal.mark-session-requires
+mark-session-requires c =
+    fits_accepted _ 0 c.read-order.ensures.refusal c.read-order.ensures.order (c.in-Ok.is ∙ ap Ok c.in-Mark.is) (some (goal.at.mark-session-requires c).In-Ok)
+
+pub back-session-requires : goal.back-session-requires
+back-session-requires c =
+    fits_accepted _ 0 c.read-order.ensures.refusal c.read-order.ensures.order (c.in-Ok.is ∙ ap Ok c.in-Back.is) (some (goal.at.back-session-requires c).In-Ok)
 
 pub overflow_add-accepted : goal.overflow_add-accepted
 overflow_add-accepted c =

@@ -1,6 +1,6 @@
-use mathlib.Core.Path.{◌∙◌, ◌≡◌, refl, sym}
-use mathlib.Core.List.{List, []}
-use Prim.Native.Nat.{◌*◌, ◌+◌, ◌/◌, ◌<◌, ◌≤◌, ℕ}
+use mathlib.Core.Path.{◌∙◌, ◌≡◌, sym}
+use mathlib.Core.List.{[]}
+use Prim.Native.Nat.{◌*◌, ◌+◌, ◌/◌, ◌≤◌}
 use lib.ListN.{get_or, length}
 use native.Mathlib.Omega.{arith}
 use borrow.Author.Rules.{rules}

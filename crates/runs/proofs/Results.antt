@@ -11,8 +11,8 @@ use borrow.Author.Tests.{eqb-false, eqb-true, le-leb, le-ltb, leb-false, leb-tru
 use Rattle.model.specs.Answers.{accepted_count, answers}
 use Rattle.model.proofs.Tests.{either, length-tab, or_false_l, or_false_r}
 use Rattle.book.specs.Decoding.{book_of}
-use Rattle.book.specs.Refusals.{refusal_number}
-use Rattle.book.specs.Verdicts.{Accepted, check_result, refused}
+use Rattle.book.specs.Refusals.{refusal_number, verdict_of}
+use Rattle.book.specs.Verdicts.{Accepted, check_result, number_of, refused, verdict}
 use Rattle.book.specs.declared.refused.Refusal.{Refusal}
 use Rattle.book.specs.declared.refused.Refusal.TheVariants.{Blocks, Check, Field, Filler, Length, Order, Value}
 use Rattle.sessions.specs.Lists.{order_at, orders_of}
@@ -124,9 +124,10 @@ module _ (b o space : List ℕ) where
       let z : run_refusal b o (length space) ≡ 0 → ⊥ = λ y. n (sym q ∙ y) in
       (sym (result_refused b o (length space) z ∙ q), sym (space_refused z))
 
-  pub book_refused : (e : Refusal) → check_result b ≡ refusal_number e → (refusal_number e ≡ run_result b o (length space)) × (space ≡ run_space b o space)
-  unfolding run_refusal
-  book_refused e f =
+  pub book_refused : (e : Refusal) → verdict b ≡ verdict_of e → (refusal_number e ≡ run_result b o (length space)) × (space ≡ run_space b o space)
+  unfolding run_refusal check_result
+  book_refused e v =
+      let f : check_result b ≡ refusal_number e = ap number_of v in
       let l = refusal_above e in
       let k : 65536 ≤ check_result b = omega arith in
       refuses_with (rw (le-leb 65536 (check_result b) k) f) (λ y. omega arith)

@@ -13,7 +13,6 @@ use Rattle.model.proofs.Answers.{domain_bytes_same, outcome_finish, outcome_othe
 use Rattle.model.proofs.Refusals.{push_finish, push_ind, push_refused}
 use Rattle.model.proofs.Trails.{domains_checkpoint}
 use Rattle.book.specs.Decoding.{book_of}
-use Rattle.engine.specs.States.{StateIs}
 use Rattle.engine.specs.declared.state.State.{State}
 use Rattle.search.specs.Searches.{Finishes, OutcomeIs, masks_in, number_in, tries_in}
 use Rattle.search.specs.declared.Outcome.{Outcome as Held}

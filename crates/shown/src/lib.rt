@@ -16,7 +16,8 @@ use search::Outcome;
 use sessions::orders::{Order, Refused};
 use status::*;
 
-// What an order shows that leaves this state: an accepted finish what its search comes to, any other the state alone.
+// What an order shows that leaves this state: an accepted finish what its search comes to, any other the state alone. Here and below each order has an
+// arm of its own, off which the proof reads what the order is.
 fn outcome_of(layout: &Layout<'_>, order: Result<Order, Refused>, state: &State) -> Outcome
     requires { SomeState layout.now.sheets.book.now state.now }
     ensures { (o : List ℕ) → IfOk order (order_is o) → ShowsBesides layout.now.sheets.book.now o (refused_in order) state.now result }
@@ -62,11 +63,12 @@ fn show(
     requires { (i ≤ 256) × (72 * i + 72 ≤ length answers.old) × (depth < 256) }
     ensures { ShowsAt told depth (refusal_shown refused) outcome.now state.now i answers.old answers.new }
 {
+    let refused = refused.map_or(0, u8::from);
     write(
         answers,
         i,
         Answer {
-            refused: refused.map_or(0, u8::from),
+            refused,
             status: u8::from(told.status),
             depth: depth as u8,
             outcome: outcome.number(),

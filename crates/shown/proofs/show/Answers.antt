@@ -4,4 +4,4 @@ use Rattle.shown.proofs.show.Goals as goal
 
 pub returns : goal.returns
 returns c =
-    shows_at _ _ (rw (refusal_byte _ c.map_or.ensures, c.from.ensures, c.number.ensures, c.tries.ensures, c.masks.ensures) refl) c.write.ensures
+    shows_at _ _ (rw (refusal_byte _ c.map_or-refused.ensures, c.from.ensures, c.number.ensures, c.tries.ensures, c.masks.ensures) refl) c.write.ensures

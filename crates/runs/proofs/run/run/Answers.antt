@@ -10,7 +10,7 @@ use Rattle.runs.proofs.run.run.Goals.{Else-answers-needed, In_ok-book}
 
 pub returns-in_err-book : goal.returns-in_err-book
 returns-in_err-book c =
-    rw (book_number _ _ c.from_residual.ensures.1) (book_refused _ _ _ c.in_err-book.field-0.0 c.in_err-book.ensures.number)
+    rw (book_number _ _ c.from_residual.ensures.1) (book_refused _ _ _ c.in_err-book.field-0.0 c.in_err-book.ensures.refused)
 
 -- the bytes are those of an accepted book
 accepted : (c : In_ok-book) → Accepted c.args.book.now

@@ -12,6 +12,7 @@ use std::rt::Files;
 use std::{fs, io};
 
 // How many domains each line shows.
+#[tactic(auto, using(crate::proofs::Prints::shown_short, crate::proofs::Prints::shown_none, crate::proofs::Prints::shown_all))]
 fn columns(book: &[u8]) -> usize
     ensures { (result ≡ columns_shown book.now) × (result ≤ 16) }
 {

@@ -1,2 +1,3 @@
--- The worked examples.
+-- The worked examples, and laws that pages name and no function needs.
 pub mod Acceptance
+pub mod Walks

@@ -1,5 +1,5 @@
 -- Laws of the refusals: for a wrong byte, of a value and of filler; for the first row that does not rise, of a sheet and of a book. Assumes nothing.
-use mathlib.Core.Path.{◌≡◌, refl, sym, ◌∙◌}
+use mathlib.Core.Path.{◌≡◌, ap, refl, sym, ◌∙◌}
 use mathlib.Core.Bool.{false, false≢true, true}
 use mathlib.Core.Logic.{◌⊎◌, inl, inr}
 use mathlib.Core.List.{List}
@@ -15,7 +15,9 @@ use Rattle.heads.specs.Heads.{columns_of, forbids_of, rows_of, sheets_of}
 use Rattle.rows.specs.Rows.{blocks_of, fall_place, falls, falls_in, fault_at, fault_in_block, fault_in_sheet, first_block, first_fall, first_fault, is_value, kind_of, row_place, wrong_block, wrong_byte, wrong_sheet}
 use Rattle.rows.specs.Bounds.{BoundedSheet, used_rows, wrong_in}
 use Rattle.rows.proofs.Bounds.{block_first}
-use Rattle.book.specs.Verdicts.{accepted, bad_filler, bad_order, bad_value, order_verdict, row_verdict}
+use Rattle.book.specs.Refusals.{fault_number, refusal_number, verdict_of}
+use Rattle.book.specs.Verdicts.{accepted, bad_filler, bad_order, bad_value, number_of, order_verdict, row_verdict}
+use Rattle.book.specs.declared.refused.Refusal.{Refusal}
 
 -- ---- a wrong byte
 module _ (b : List ℕ) (s q i : ℕ) where
@@ -60,6 +62,11 @@ block_first_of b block s q start w x y z k n used (Some i) m p hb hn hu h =
 pub sheet_first : (b : List ℕ) (s : ℕ) → s < sheets_of b → NoneIn (wrong_sheet b) 0 s → wrong_sheet b s ≡ true → first_fault b ≡ fault_in_sheet b s
 unfolding first_fault
 sheet_first b s p h e = rw (first_in_lowest (first_in_found {f = wrong_sheet b} (omega arith) p h e), lt-ltb s (sheets_of b) p)
+
+-- the refusal that stands for the fault of a sheet has its number, 5 or 6
+pub fault_numbered : (b : List ℕ) (s : ℕ) (e : Refusal) → row_verdict b (fault_in_sheet b s) ≡ verdict_of e → refusal_number e ≡ fault_number (fault_in_sheet b s)
+unfolding fault_in_sheet fault_in_block fault_at
+fault_numbered b s e h = sym (ap number_of h)
 
 -- ---- the first row of a sheet that does not rise
 module _ (b : List ℕ) (s : ℕ) where

@@ -1,6 +1,7 @@
 -- The refusals of the code: the verdict that each stands for, and so its number. For those who read the code.
 use Rattle.std.specs.Prelude.{ℕ}
-use Rattle.book.specs.Verdicts.{Verdict, bad_blocks, bad_check, bad_field, bad_filler, bad_length, bad_order, bad_value, number_of}
+use Rattle.rows.specs.Rows.{RowFault, clean, fault}
+use Rattle.book.specs.Verdicts.{Verdict, bad_blocks, bad_check, bad_field, bad_filler, bad_length, bad_order, bad_value, fault_verdict, number_of}
 use Rattle.book.specs.declared.refused.Refusal.{Refusal}
 use Rattle.book.specs.declared.refused.Refusal.TheVariants.{Blocks, Check, Field, Filler, Length, Order, Value}
 
@@ -17,3 +18,8 @@ verdict_of (Order place) = bad_order place
 -- the number that the call returns for it
 abbrev pub refusal_number : Refusal → ℕ
 refusal_number e = number_of (verdict_of e)
+
+-- a fault of the rows as a number: that of its refusal, 5 or 6, or 0 where there is none
+abbrev pub fault_number : RowFault → ℕ
+fault_number clean = 0
+fault_number (fault offset kind) = number_of (fault_verdict offset kind)

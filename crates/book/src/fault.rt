@@ -2,8 +2,8 @@
 ghost use Rattle.std.specs.Prelude.{◌≡◌, ◌+◌, ◌*◌, ◌<◌, ◌≤◌, IfErr, OnOk, false, true};
 ghost use Rattle.model.specs.Tests.{FirstOf};
 ghost use Rattle.heads.specs.Heads.{RightHead, sheets_of};
-ghost use Rattle.rows.specs.Rows.{blocks_of, clean, fault_at, fault_in_block, first_fault, is_value, fault_in_sheet, wrong_byte, wrong_sheet};
-ghost use Rattle.book.specs.Refusals.{verdict_of};
+ghost use Rattle.rows.specs.Rows.{blocks_of, clean, fault_at, fault_in_block, first_block, first_fault, is_value, fault_in_sheet, wrong_byte, wrong_sheet};
+ghost use Rattle.book.specs.Refusals.{fault_number, refusal_number, verdict_of};
 ghost use Rattle.book.specs.Verdicts.{row_verdict};
 
 use crate::refused::Refusal;
@@ -49,14 +49,18 @@ fn first_in_block(sheet: &SheetBlocks<'_>, q: usize) -> Option<usize>
     )
 }
 
-// The refusal for the first fault of sheet s.
-#[tactic(auto, using(crate::proofs::Refusals::byte_found, rows::proofs::Rows::blocks_few, model::proofs::Firsts::none_any), unfolding(rows::specs::Rows::wrong_sheet))]
-fn check_sheet(book: &Whole<'_>, s: usize) -> Result<(), Refusal>
-    requires { s < sheets_of book.now.bytes.now }
+// The refusal for the first fault of sheet s, whose blocks begin at block `start`.
+#[tactic(auto, using(crate::proofs::Refusals::byte_found, rows::proofs::Rows::blocks_few, rows::proofs::Rows::blocks_there, model::proofs::Firsts::none_any), unfolding(rows::specs::Rows::wrong_sheet))]
+fn check_sheet(book: &Whole<'_>, s: usize, start: usize) -> Result<(), Refusal>
+    requires { (s < sheets_of book.now.bytes.now) × (start ≡ first_block book.now.bytes.now s) }
     ensures right { OnOk result (wrong_sheet book.now.bytes.now s ≡ false) }
     ensures wrong { IfErr result (λ e. (wrong_sheet book.now.bytes.now s ≡ true) × (row_verdict book.now.bytes.now (fault_in_sheet book.now.bytes.now s) ≡ verdict_of e)) }
 {
-    let sheet = SheetBlocks::of(book, s);
+    let sheet = SheetBlocks {
+        book: book.bytes,
+        number: s,
+        start,
+    };
     match first_in_sheet(&sheet) {
         None => Ok(()),
         Some(q) => {
@@ -67,16 +71,19 @@ fn check_sheet(book: &Whole<'_>, s: usize) -> Result<(), Refusal>
 }
 
 // Refusal 5 or 6 for the first fault of the rows. A right book without 255 is done where no sheet is in doubt.
-#[tactic(auto, using(crate::proofs::Refusals::sheet_first, rows::proofs::Rows::fault_none))]
+#[tactic(auto, using(crate::proofs::Refusals::sheet_first, crate::proofs::Refusals::fault_numbered, rows::proofs::Rows::fault_none))]
 pub fn check_faults(book: &Whole<'_>) -> Result<(), Refusal>
     ensures right { OnOk result (first_fault book.now.bytes.now ≡ clean) }
     ensures wrong { IfErr result (λ e. row_verdict book.now.bytes.now (first_fault book.now.bytes.now) ≡ verdict_of e) }
+    ensures number { IfErr result (λ e. refusal_number e ≡ fault_number (first_fault book.now.bytes.now)) }
 {
     let Some(first) = first_doubt(book) else {
         return Ok(());
     };
+    let mut start = first_block(&book.head(), first);
     for s in first..book.head().sheets() {
-        check_sheet(book, s)?;
+        check_sheet(book, s, start)?;
+        start += blocks_of(&book.head(), s);
     }
     Ok(())
 }

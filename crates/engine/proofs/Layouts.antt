@@ -1,18 +1,21 @@
 -- Laws of the layout: the columns of a sheet, the places at which it has 255, and both of every sheet. Assumes nothing.
 use mathlib.Core.Path.{◌∙◌, ◌≡◌, ap, refl, sym}
-use mathlib.Core.Bool.{◌||◌, false≢true, true}
-use mathlib.Core.Logic.{◌⊎◌, inl, inr}
+use mathlib.Core.Bool.{◌||◌, Bool-set, false≢true, true}
+use mathlib.Core.Logic.{◌⊎◌, inl, inr, ∥∥₁_elim}
 use mathlib.Core.List.{List}
 use Prim.Native.Nat.{◌%◌, ◌*◌, ◌+◌, ◌-◌, ◌<◌, ◌^◌, ◌≤◌, ℕ}
 use native.Mathlib.Omega.{arith}
 use lib.Bits.{bit_and, bit_or}
+use lib.Dec.{eqb}
 use lib.ListN.{get_or, length, length-replicate, length-set, replicate, set}
 use lib.Seq.{get_or-set_other, get_or-set_same}
+use borrow.Author.Tests.{eq-eqb, eqb-true}
 use Rattle.fields.specs.Bytes.{byte_at}
 use Rattle.model.specs.Books.{is_any}
 use Rattle.model.specs.Masks.{bit}
+use Rattle.model.specs.Tests.{any_below}
 use Rattle.model.proofs.Masks.{bit-and, bit_of_zero, bit-or, bit_pow, bit_pow_only}
-use Rattle.model.proofs.Tests.{and_i, below, or_e, or_l, or_r, zeros_at}
+use Rattle.model.proofs.Tests.{and_i, any_below_e, any_below_i, below, or_e, or_l, or_r, zeros_at}
 use Rattle.heads.specs.Blocks.{block_at, word}
 use Rattle.heads.specs.Heads.{column_of, rows_of, sheets_of, width_of}
 use Rattle.rows.specs.Bounds.{joined}
@@ -58,6 +61,14 @@ columns_more {b} {s} {n} {m} {c} h e l =
 pub columns_end : {b : List ℕ} {s n m : ℕ} → n ≡ width_of b s → ColumnsTo b s n m → ColumnsIn b s m
 columns_end e h =
     record { all = λ j l. h.all j (omega arith); only = λ c f. let r = h.only c f in ∣ (r.0, omega (arith, r.1), r.2) ∣₁ }
+
+-- which place of the sheet a column of m is at: the definition says that there is one
+pub column_place : {b : List ℕ} {s m : ℕ} → ColumnsIn b s m → (c : ℕ) → bit c m ≡ true → (j : ℕ) × (j < width_of b s) × (column_of b s j ≡ c)
+column_place {b} {s} {m} h c e =
+    let r = any_below_e _ _ (found (h.only c e)) in (r.0, r.1, eqb-true _ _ r.2)
+  where
+    found : ∥ ((j : ℕ) × (j < width_of b s) × (column_of b s j ≡ c)) ∥₁ → any_below (width_of b s) (λ j. eqb (column_of b s j) c) ≡ true
+    found t = ∥∥₁_elim t (Bool-set _ _) (λ r. any_below_i _ _ r.0 r.1 (eq-eqb _ _ r.2))
 
 -- ---- the places with 255, block by block
 -- those of the rows in the blocks below n

@@ -8,7 +8,7 @@ use Rattle.heads.specs.Heads.{column_of, sheets_of, width_of}
 use Rattle.book.specs.Verdicts.{Accepted}
 use Rattle.words.specs.Sheets.{ShortPlaces, first_byte}
 
--- m has the columns of sheet s, and no other. The bars make it a fact without a choice of j, as a ghost field wants
+-- m has the columns of sheet s, and no other. The bars make it a fact without a choice of j, as a ghost field wants; `column_place` (proofs/Layouts) gives j
 pub record ColumnsIn (b : List ℕ) (s m : ℕ) : Type 0 where
   pub all : (j : ℕ) → j < width_of b s → bit (column_of b s j) m ≡ true
   pub only : (c : ℕ) → bit c m ≡ true → ∥ ((j : ℕ) × (j < width_of b s) × (column_of b s j ≡ c)) ∥₁

@@ -36,11 +36,14 @@ pub(crate) fn first_over(sheet: &SheetBlocks<'_>, m: Bounds) -> Option<usize>
     (0..blocks_of(&sheet.head(), sheet.number)).find(|q| over_block(sheet, m, *q))
 }
 
-// The first wrong block of a sheet, counted from its first.
+// The first wrong block of a sheet, counted from its first. One without rows needs no bounds.
 pub fn first_in_sheet(sheet: &SheetBlocks<'_>) -> Option<usize>
     requires { RightHead sheet.now.book.now × (sheet.now.number < sheets_of sheet.now.book.now) }
     ensures { FirstOf (wrong_block sheet.now.book.now sheet.now.number) 0 (blocks_of sheet.now.book.now sheet.now.number) result }
 {
+    if sheet.rows() == 0 {
+        return None;
+    }
     first_over(sheet, bounds_of(&sheet.head(), sheet.number))
 }
 

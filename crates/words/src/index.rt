@@ -25,12 +25,20 @@ impl Rows {
         usize::from(self.nonzero[s])
     }
 
+    // The word number at position p of the index of sheet s, be its word zero or not.
+    pub fn word_number(&self, s: usize, p: usize) -> usize
+        requires { (s < 8) × (p < 8) × (of_sheet self.now.index s p < 8) }
+        ensures { (result ≡ of_sheet self.now.index s p) × (result < 8) }
+    {
+        usize::from(self.index[8 * s + p])
+    }
+
     // The word at position p of the index of sheet s: its number, and its rows.
     pub fn word(&self, s: usize, p: usize) -> (usize, u64)
         requires { (s < 8) × IndexOf s self.now.valid self.now.index self.now.nonzero × (p < get_or self.now.nonzero s 0) }
         ensures { (result.0 ≡ of_sheet self.now.index s p) × (result.1 ≡ of_sheet self.now.valid s result.0) × (result.0 < 8) }
     {
-        let w = usize::from(self.index[8 * s + p]);
+        let w = self.word_number(s, p);
         (w, self.valid[8 * s + w])
     }
 
@@ -48,7 +56,7 @@ impl Rows {
     }
 
     // Position p of the index of sheet s, whose word became zero, goes past the limit: it changes places with the last one at or below it.
-    pub(crate) fn drop_word(&mut self, s: usize, p: usize)
+    pub fn drop_word(&mut self, s: usize, p: usize)
         requires { (s < 8) × (p < get_or self.old.nonzero s 0) × (get_or self.old.nonzero s 0 ≤ 8) }
         ensures { (self.new.index ≡ swapped self.old.index (8 * s + p) (8 * s + (get_or self.old.nonzero s 0 - 1))) × (self.new.nonzero ≡ set self.old.nonzero s (get_or self.old.nonzero s 0 - 1)) × (self.new.valid ≡ self.old.valid) }
     {

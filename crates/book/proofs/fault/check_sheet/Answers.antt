@@ -10,5 +10,4 @@ unfolding wrong_sheet
 returns-in-Some-clause-wrong c =
     let q = c.in-Some.ensures in
     let first = rw c.unwrap-i.ensures at c.first_in_block.ensures in
-    rw (← c.of-sheet.ensures.0, ← c.of-sheet.ensures.1)
-    (any_below_i _ _ c.in-Some.q q.0 (q.1.passes q.0), ap (row_verdict c.of-sheet.result.book.now) (fault_first _ _ _ _ q.1 first.1) ∙ c.fault_at.ensures)
+    (any_below_i _ _ c.in-Some.q q.0 (q.1.passes q.0), ap (row_verdict c.args.book.now.bytes.now) (fault_first _ _ _ _ q.1 first.1) ∙ c.fault_at.ensures)

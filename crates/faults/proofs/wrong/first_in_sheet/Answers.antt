@@ -1,6 +1,12 @@
-use Rattle.model.proofs.Firsts.{first_of_same}
+use native.Mathlib.Omega.{arith}
+use Rattle.model.proofs.Firsts.{first_of_same, none_empty}
+use Rattle.rows.specs.Rows.{blocks_of}
 use Rattle.rows.proofs.Bounds.{over_wrong}
 use Rattle.faults.proofs.wrong.first_in_sheet.Goals as goal
+
+pub returns-then-rows-eq0 : goal.returns-then-rows-eq0
+unfolding blocks_of
+returns-then-rows-eq0 c = none_empty (omega arith)
 
 pub returns : goal.returns
 returns c = let m = c.bounds_of.result in

@@ -29,7 +29,8 @@ fn over_block(sheet: &SheetBlocks<'_>, m: Bounds, q: usize) -> bool
     any_wrong(&sheet.block(q), m, used_rows(sheet.rows(), q))
 }
 
-// The first block of a sheet that has one, counted from its first.
+// The first block of a sheet that has one, counted from its first. Put into each of its two places: the first look is without the turning then.
+#[inline(always)]
 pub(crate) fn first_over(sheet: &SheetBlocks<'_>, m: Bounds) -> Option<usize>
     ensures { FirstOf (over_block sheet.now.book.now sheet.now.number m.w m.x m.y m.z m.k) 0 (blocks_of sheet.now.book.now sheet.now.number) result }
 {

@@ -22,10 +22,11 @@ pub struct Pair {
 }
 
 // Both lists run from the opening, with an answer space for each: what each came to, and what they have in common (`Demand3`).
-pub fn run_both(book: &Book<'_>, xs: &[u8], ys: &[u8], a: &mut [u8], d: &mut [u8]) -> Pair
-    requires { RightInput book.now.bytes.now xs.now (length a.old) × RightInput book.now.bytes.now ys.now (length d.old) }
-    ensures { BothRan book.now.bytes.now xs.now ys.now a.old d.old result.left result.right a.new d.new }
+pub fn run_both(book: &[u8], xs: &[u8], ys: &[u8], a: &mut [u8], d: &mut [u8]) -> Pair
+    requires { RightInput book.now xs.now (length a.old) × RightInput book.now ys.now (length d.old) }
+    ensures { BothRan book.now xs.now ys.now a.old d.old result.left result.right a.new d.new }
 {
+    let book = &Book { bytes: book };
     let p = run_orders(book, xs, a);
     let q = run_orders(book, ys, d);
     let left = p.session;

@@ -1,4 +1,4 @@
-use Rattle.std.proofs.Common.{◌<◌, ◌≤◌, arith, sym}
+use Rattle.std.proofs.Common.{◌<◌, arith, sym}
 use Rattle.model.proofs.Firsts.{none_more}
 use Rattle.heads.specs.Heads.{sheets_of}
 use Rattle.heads.proofs.Heads.{sheets_most}

@@ -7,9 +7,10 @@ use Rattle.model.specs.Acceptance.{H}
 use Rattle.heads.specs.Acceptance.{head, padded}
 use Rattle.heads.specs.Blocks.{check_of}
 use Rattle.rows.specs.Acceptance.{both, both_rows, clash, harbour, long_rows, rows0, rows1}
-use Rattle.rows.specs.Rows.{too_large, not_zero}
-use Rattle.book.specs.Verdicts.{fault_verdict, number_of, refused}
+use Rattle.rows.specs.Rows.{too_large, not_zero, fault}
+use Rattle.book.specs.Verdicts.{refused}
 use Rattle.book.specs.Places.{place_byte, place_column, place_row, place_sheet}
+use Rattle.book.specs.Refusals.{fault_number}
 use Rattle.book.specs.Decoding.{book_of, row_of, sheet_of}
 
 -- ---- what they give
@@ -28,10 +29,10 @@ pub record DecodedFacts : Type 0 where
 -- "The place is the offset in the whole file divided by 4, rounded down": bytes 516 to 519 are one row; the last byte that can be at fault. Faults in whole
 -- books are worked in crate examples
 pub record NumberFacts : Type 0 where
-  pub large : number_of (fault_verdict 516 too_large) ≡ refused 5 129
-  pub filler : number_of (fault_verdict 519 not_zero) ≡ refused 6 129
-  pub next : number_of (fault_verdict 520 too_large) ≡ refused 5 130
-  pub last : number_of (fault_verdict 16891 not_zero) ≡ refused 6 4222
+  pub large : fault_number (fault 516 too_large) ≡ refused 5 129
+  pub filler : fault_number (fault 519 not_zero) ≡ refused 6 129
+  pub next : fault_number (fault 520 too_large) ≡ refused 5 130
+  pub last : fault_number (fault 16891 not_zero) ≡ refused 6 4222
 
 -- from a place of H to the sheet and the row: the first and the last row of block 1, which is sheet 0's, and the first of block 2; and of a sheet of two
 -- blocks the first row of the second; the first wrong byte of a row, after 255 in place of a value too, and its column

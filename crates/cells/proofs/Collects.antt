@@ -77,6 +77,19 @@ module _ (cell : ℕ → ℕ → ℕ) {f : List ℕ} where
       go j v (inl p) = inl p
       go j v (inr (k, p, q)) = inr (k, sym (e k) ∙ p, q)
 
+  pub of_cells : (cell' : ℕ → ℕ → ℕ) {passes : ℕ → Bool} {g : List ℕ} → ((k j : ℕ) → passes k ≡ true → cell k j ≡ cell' k j)
+      → GatheredOf cell passes f g → GatheredOf cell' passes f g
+  of_cells cell' {passes} {g} e h = record {
+    old = h.old;
+    new = λ j k l p. rw (← e k j p) (h.new j k l p);
+    sound = λ j v l p. go j v (h.sound j v l p);
+  }
+    where
+      go : (j v : ℕ) → (bit v (get_or f j 0) ≡ true) ⊎ ((k : ℕ) × (passes k ≡ true) × (cell k j ≡ v))
+          → (bit v (get_or f j 0) ≡ true) ⊎ ((k : ℕ) × (passes k ≡ true) × (cell' k j ≡ v))
+      go j v (inl p) = inl p
+      go j v (inr (k, p, q)) = inr (k, p, sym (e k j p) ∙ q)
+
   -- one part of the rows, and then the other
   pub of_join : {passes more all : ℕ → Bool} {g h : List ℕ} → ((k : ℕ) → all k ≡ (passes k || more k))
       → GatheredOf cell passes f g → GatheredOf cell more g h → GatheredOf cell all f h
